@@ -1,5 +1,5 @@
 -- The granules of a migration have their places in its units.
-use Rattle.std.proofs.Common.{◌≡◌, ◌≢◌, ℕ, zero, suc, ◌+◌, ◌<◌, ◌≤◌, ◌==◌, ◌&&◌, Bool, true, false, inl, inr, cond, List, [], ◌∷◌, ◌++◌, map, flat_map, length, take, refl, sym, ap, subst, ◌∙◌, arith, Option, Some, None}
+use Rattle.std.proofs.Common.{◌≡◌, ◌≢◌, ℕ, zero, suc, ◌+◌, ◌<◌, ◌≤◌, ◌==◌, ◌&&◌, ◌||◌, ◌⊎◌, Bool, true, false, inl, inr, List, [], ◌∷◌, ◌++◌, map, flat_map, length, take, refl, sym, ap, subst, ◌∙◌, arith, Option, Some, None}
 use Rattle.std.specs.List.{slice_get, enumerate_from, range_with_len, list_all, list_any, All, AllByRecursion}
 use Rattle.std.specs.Option.{option_map}
 use Rattle.std.proofs.lemmas.Bool.{and_parts, cases_Bool, false≢true, or_parts}
@@ -25,7 +25,7 @@ same_from_test : (m n : ℕ) → (m == n) ≡ true → m ≡ n
 same_from_test m n e = grind (arith, nat_tests)
 
 -- one of two tests holds
-either : (a b : Bool) → cond a true b ≡ true → (a ≡ true) ⊎ (b ≡ true)
+either : (a b : Bool) → (a || b) ≡ true → (a ≡ true) ⊎ (b ≡ true)
 either true b e = inl refl
 either false b e = inr e
 
@@ -33,11 +33,11 @@ either false b e = inr e
 in_block : (n : ℕ) (places : List Place) (g : Granule) → has same_granule (map (granule n) places) g ≡ true → (g.unit ≡ n) × (has same_place places g.place ≡ true)
 in_block n [] g h = absurd (false≢true h)
 in_block n (p ∷ places) g h = elim (either (g.unit == n && same_place g.place p) (has same_granule (map (granule n) places) g) h) [
-  | inl here ↦ (let parts = and_parts _ _ here in (same_from_test g.unit n parts.0, ap (λ b. cond b true (has same_place places g.place)) parts.1))
+  | inl here ↦ (let parts = and_parts _ _ here in (same_from_test g.unit n parts.0, ap (λ b. b || has same_place places g.place) parts.1))
   | inr later ↦ (let rest = in_block n places g later in (rest.0, later_too (same_place g.place p) _ rest.1))
 ]
   where
-    later_too : (a b : Bool) → b ≡ true → cond a true b ≡ true
+    later_too : (a b : Bool) → b ≡ true → (a || b) ≡ true
     later_too true b e = refl
     later_too false b e = e
 
@@ -68,7 +68,7 @@ pub record IsIn (old : Database) (forms : List UnitForm) (n : ℕ) (g : Granule)
 
 among : (old : Database) (forms : List UnitForm) (n : ℕ) (g : Granule) → has same_granule (flat_map (λ u. map (granule u.0) (places_in old u.1)) (enumerate_from n forms)) g ≡ true → IsIn old forms n g
 among old [] n g h = absurd (false≢true h)
-among old (form ∷ forms) n g h = elim (either _ _ (sym (list_any-append (same_granule g) (map (granule n) (places_in old form)) (flat_map (λ u. map (granule u.0) (places_in old u.1)) (enumerate_from (n + 1) forms))) ∙ h)) [
+among old (form ∷ forms) n g h = elim (either (has same_granule (map (granule n) (places_in old form)) g) (has same_granule (flat_map (λ u. map (granule u.0) (places_in old u.1)) (enumerate_from (n + 1) forms)) g) (sym (list_any-append (same_granule g) (map (granule n) (places_in old form)) (flat_map (λ u. map (granule u.0) (places_in old u.1)) (enumerate_from (n + 1) forms))) ∙ h)) [
   | inl here ↦ (let block = in_block n (places_in old form) g here in record { at = 0; form = form; number = (let e = block.0 in omega arith); there = refl; place = in_unit old form g.place block.1 })
   | inr later ↦ (let rest = among old forms (n + 1) g later in record { at = suc rest.at; form = rest.form; number = (let e = rest.number in omega arith); there = rest.there; place = rest.place })
 ]

@@ -1,5 +1,5 @@
 -- Lists with another item at an index, and with one more at the end.
-use Rattle.std.proofs.Common.{◌≡◌, ◌≢◌, ℕ, zero, suc, ◌==◌, ◌<◌, ◌⊎◌, inl, inr, Bool, true, false, List, [], ◌∷◌, ◌++◌, length, take, refl, sym, ap, ◌∙◌, ◌-◌, arith, Option, Some, None}
+use Rattle.std.proofs.Common.{◌≡◌, ◌≢◌, ℕ, zero, suc, ◌==◌, ◌<◌, ◌⊎◌, inl, inr, Bool, true, false, List, [], ◌∷◌, ◌++◌, length, take, refl, sym, ap, ◌∙◌, ◌+◌, ◌-◌, arith, Option, Some, None}
 use Rattle.std.specs.List.{slice_get, slice_set, AllByRecursion}
 use Rattle.std.proofs.lemmas.Bool.Decides.{nat_tests}
 use Rattle.std.proofs.lemmas.Option.{none-some, same_Some}
@@ -74,3 +74,12 @@ module _ {X : Type 0} where
   none_popped (x ∷ xs) last =
       let there = get_there (x ∷ xs) (length (x ∷ xs) - 1) (omega arith) in
       absurd (none-some there.0 (last ∙ there.1))
+
+  -- a front with the next item
+  take_suc : (xs : List X) (i : ℕ) (x : X) → slice_get xs i ≡ Some x → take (suc i) xs ≡ take i xs ++ x ∷ []
+  take_suc [] i x at = absurd (none-some x at)
+  take_suc (y ∷ xs) zero x at = ap (λ z. z ∷ []) (same_Some y x at)
+  take_suc (y ∷ xs) (suc i) x at = ap (λ zs. y ∷ zs) (take_suc xs i x at)
+
+  pub take_one : (xs : List X) (i : ℕ) (x : X) → slice_get xs i ≡ Some x → take (i + 1) xs ≡ take i xs ++ x ∷ []
+  take_one xs i x at = (let next : i + 1 ≡ suc i = omega arith in ap (λ n. take n xs) next ∙ take_suc xs i x at)

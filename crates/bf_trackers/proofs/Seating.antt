@@ -32,6 +32,9 @@ module _ (units : List UnitTracker) (seats : List (Option Seat)) (own : AreSeats
       let there = get_there seats unit (let within = slice_get_within units unit (Rows bits) e in omega (arith, own.as_many)) in
       of_rows bits there.0 (own.each unit (Rows bits) there.0 e there.1) there.1
 
+  pub row_seat : (bits : Tracker) (count : ℕ) → slice_get units unit ≡ Some (Rows bits) → (seat : Seat) × (seat_at (record { units = seats; count = count }) unit ≡ Some seat) × (seat.table ≡ bits.table)
+  row_seat bits count e = let found = rows_seat bits e in (found.0, ap (option_and_then (λ s. s)) found.1, found.2)
+
   pub set_own : (bits : Tracker) (seat : Seat) → slice_get units unit ≡ Some (Rows bits) → seat.table ≡ bits.table → AreSeatsOf units (slice_set seats unit (Some seat))
   set_own bits seat e table = record {
     as_many = length-set seats unit (Some seat) ∙ own.as_many;

@@ -17,8 +17,7 @@ use Rattle.bf_image.proofs.planning.Units.{unit_at_number, units_few, units_stan
 use Rattle.bf_trackers.specs.declared.units.Shape.{Shape}
 use Rattle.bf_trackers.specs.declared.units.Shape.TheVariants as shape
 use Rattle.bf_trackers.specs.Migrations.{shape_in, shapes_of}
-use Rattle.bf_trackers.proofs.Lists.{get_there}
-use Rattle.bf_trackers.proofs.Works.{take_one}
+use Rattle.bf_trackers.proofs.Lists.{get_there, take_one}
 
 length_range : (first count : ℕ) → length (range_with_len first count) ≡ count
 length_range first zero = refl

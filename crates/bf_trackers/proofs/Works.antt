@@ -1,5 +1,5 @@
 -- Claimed granules in the order of unit and place.
-use Rattle.std.proofs.Common.{◌≡◌, ◌≢◌, ℕ, zero, suc, ◌+◌, ◌-◌, ◌<◌, ◌≤◌, ◌&&◌, Bool, true, false, not, cond, inl, inr, ◌⊎◌, List, [], ◌∷◌, ◌++◌, map, fold, length, take, drop, refl, sym, ap, ap₂, subst, ◌∙◌, arith, nat_cmp, is_lt, Ordering, Less, Equal, Option, Some, None}
+use Rattle.std.proofs.Common.{◌≡◌, ◌≢◌, ℕ, zero, suc, ◌+◌, ◌-◌, ◌<◌, ◌≤◌, ◌&&◌, ◌||◌, Bool, true, false, not, cond, inl, inr, ◌⊎◌, List, [], ◌∷◌, ◌++◌, map, fold, length, take, drop, refl, sym, ap, ap₂, subst, ◌∙◌, arith, nat_cmp, is_lt, Ordering, Less, Equal, Option, Some, None}
 use Rattle.std.specs.List.{slice_get, list_all, list_any, AllByRecursion, insert}
 use Rattle.std.specs.Cmp.{IsTotalOrder}
 use Rattle.std.specs.Ordering.{eq_by_cmp, ordering_then}
@@ -22,6 +22,7 @@ use Rattle.bf_store.specs.States.{AreGranules, granule_cmp, place_cmp}
 use Rattle.bf_store.specs.Stores.{migration_of}
 use Rattle.bf_store.proofs.Granules.{granule_cmp_total, granule_ties}
 use Rattle.bf_trackers.specs.Migrations.{IsGranuleOf}
+use Rattle.bf_trackers.proofs.Lists.{take_one}
 use Rattle.bf_trackers.specs.Works.{IsWork, by_place}
 
 -- ---- an item among others
@@ -63,20 +64,22 @@ module _ {X : Type 0} (cmp : X → X → Ordering) where
 pub placed_more : (gs : List Granule) (g : Granule) → by_place (gs ++ g ∷ []) ≡ placed granule_cmp (λ h. h) (by_place gs) g
 placed_more gs g = fold-append (placed granule_cmp (λ h. h)) [] gs (g ∷ [])
 
-pub take_one : {X : Type 0} (xs : List X) (i : ℕ) (x : X) → slice_get xs i ≡ Some x → take (i + 1) xs ≡ take i xs ++ x ∷ []
-take_one [] i x at = absurd (none-some x at)
-take_one (y ∷ xs) zero x at = ap (λ z. z ∷ []) (same_Some y x at)
-take_one (y ∷ xs) (suc i) x at = ap (λ zs. y ∷ zs) (take_one xs i x at)
+-- the next granule of a list, of which a copy comes to stand among those before
+pub next_in_order : (gs : List Granule) (i place : ℕ) (g copy : Granule) (items slice new : List Granule) → new ≡ insert items place copy → slice ≡ items → copy ≡ g
+    → insert slice place g ≡ placed granule_cmp (λ h. h) slice g → items ≡ by_place (take i gs) → Some g ≡ slice_get gs i → new ≡ by_place (take (i + 1) gs)
+next_in_order gs i place g copy items slice new is same copied put so_far at =
+    is ∙ ap (λ c. insert items place c) copied ∙ ap (λ xs. insert xs place g) (sym same) ∙ put ∙ ap (λ xs. placed granule_cmp (λ h. h) xs g) (same ∙ so_far)
+    ∙ sym (placed_more (take i gs) g) ∙ ap by_place (sym (take_one gs i g (sym at)))
 
 -- ---- granules at different places of a list are apart
 has_at : (gs : List Granule) (g : Granule) → has same_granule gs g ≡ true → (j : ℕ) × (slice_get gs j ≡ Some g)
 has_at [] g h = absurd (false≢true h)
 has_at (k ∷ gs) g h = elim (cases_Bool (same_granule g k)) [
   | inl same ↦ (0, ap Some (sym (same_granule-equal g k same)))
-  | inr other ↦ (let rest = has_at gs g (later (same_granule g k) _ other h) in (suc rest.0, rest.1))
+  | inr other ↦ (let rest = has_at gs g (later (same_granule g k) (has same_granule gs g) other h) in (suc rest.0, rest.1))
 ]
   where
-    later : (a b : Bool) → a ≡ false → cond a true b ≡ true → b ≡ true
+    later : (a b : Bool) → a ≡ false → (a || b) ≡ true → b ≡ true
     later true b e h = absurd (false≢true (sym e))
     later false b e h = h
 
@@ -98,7 +101,7 @@ length_same (through r s) = length_same r ∙ length_same s
 all_same : {X : Type 0} (P : X → Type 0) {xs ys : List X} → SameItems xs ys → AllByRecursion P xs → AllByRecursion P ys
 all_same P no_items all = tt
 all_same P (same_first r) all = (all.0, all_same P r all.1)
-all_same P exchanged all = (all.1.0, all.0, all.1.1)
+all_same P exchanged all = (all.1.0, (all.0, all.1.1))
 all_same P (through r s) all = all_same P s (all_same P r all)
 
 -- granules of one unit are in the order of place

@@ -1,5 +1,5 @@
 -- What a claim of a granule answers, by what its tracker answers.
-use Rattle.std.specs.Prelude.{◌≡◌, List, ⊤}
+use Rattle.std.specs.Prelude.{◌≡◌, ℕ, List, ⊤}
 use Rattle.bf_base.specs.declared.value.Value.{Value}
 use Rattle.bf_bits.specs.declared.bits.BitAnswer.{BitAnswer}
 use Rattle.bf_bits.specs.declared.bits.BitAnswer.TheVariants as bit
@@ -19,3 +19,9 @@ IsOfKey key (taken.Claimed (Row claim)) = ⊥
 IsOfKey key (taken.Claimed (Group claim)) = claim.key ≡ key
 IsOfKey key taken.Busy = ⊤
 IsOfKey key taken.Done = ⊤
+
+-- how many claims an answer grants
+abbrev pub claims_in : Taken → ℕ
+claims_in (taken.Claimed claim) = 1
+claims_in taken.Busy = 0
+claims_in taken.Done = 0

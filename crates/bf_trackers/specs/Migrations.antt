@@ -1,5 +1,6 @@
 -- The trackers of a migration, and what seats of them hold.
-use Rattle.std.specs.Prelude.{◌≡◌, ℕ, List, [], ◌∷◌, length, map, IsTrue}
+use Rattle.std.specs.Prelude.{◌≡◌, List, length, map, refl, IsTrue}
+use Rattle.std.specs.Coded.{Coded, code_by, coded×}
 use Rattle.std.specs.List.{AllByRecursion}
 use Rattle.boxcar.specs.Table.{Where}
 use Rattle.bf_base.specs.declared.granule.Granule.{Granule}
@@ -28,6 +29,9 @@ shapes_of m = map (shape_in (old_of m)) (units_in m)
 pub record Trackers : Type 0 where
   pub pass : Where Migration
   pub units : List UnitTracker
+
+abbrev pub trackers_coded : Coded (Where Migration) → Coded (List UnitTracker) → Coded Trackers
+trackers_coded pass units = code_by (Where Migration × List UnitTracker) (coded× pass units) (λ t. (t.pass, t.units)) (λ p. record { pass = p.0; units = p.1 }) (λ _. refl)
 
 abbrev pub AreOf : Migration → List UnitTracker → Type 0
 AreOf m units = map shape_of units ≡ shapes_of m

@@ -89,6 +89,6 @@ first_seat_of positions (tracker.Keys count) = None
 
 -- MADE: trackers of some shapes in which these granules are done, with their first seats
 pub record AreMade (shapes : List Shape) (done : List Granule) (units : List UnitTracker) (seats : List (Option Seat)) : Type 0 where
-  pub shapes : map shape_of units ≡ shapes
+  pub of_shapes : map shape_of units ≡ shapes
   pub as_many : length seats ≡ length units
   pub firsts : (i : ℕ) (unit : UnitTracker) → slice_get units i ≡ Some unit → slice_get seats i ≡ Some (first_seat_of (positions_in i done) unit)

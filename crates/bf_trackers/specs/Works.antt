@@ -1,5 +1,6 @@
 -- WORK: what one record of moves is to do, and the claims by which it may.
-use Rattle.std.specs.Prelude.{◌≡◌, ℕ, ◌≤◌, List, [], ◌∷◌, length, map, IsTrue}
+use Rattle.std.specs.Prelude.{◌≡◌, ℕ, ◌≤◌, List, [], length, map, refl, IsTrue}
+use Rattle.std.specs.Coded.{Coded, code_by, coded×}
 use Rattle.std.specs.List.{AllByRecursion}
 use Rattle.boxcar.specs.Table.{Where}
 use Rattle.bf_base.specs.declared.granule.Granule.{Granule}
@@ -13,6 +14,9 @@ pub record Work : Type 0 where
   pub pass : Where Migration
   pub wip : List Entry
   pub granules : List Granule
+
+abbrev pub work_coded : Coded (Where Migration) → Coded (List Entry) → Coded (List Granule) → Coded Work
+work_coded pass wip granules = code_by (Where Migration × (List Entry × List Granule)) (coded× pass (coded× wip granules)) (λ w. (w.pass, (w.wip, w.granules))) (λ p. record { pass = p.0; wip = p.1.0; granules = p.1.1 }) (λ _. refl)
 
 -- granules in the order of unit and place
 abbrev pub by_place : List Granule → List Granule

@@ -1,10 +1,10 @@
 //! What an actor has of a migration's trackers: a seat for each unit of rows, and a count of its claims.
 
-ghost use Rattle.std.specs.Prelude.{◌≡◌, ◌+◌, ◌<◌, ◌^◌, Some};
+ghost use Rattle.std.specs.Prelude.{◌≡◌, ◌+◌, ◌-◌, ◌<◌, ◌^◌, Some};
 ghost use Rattle.bf_bits.specs.Answers.{answer_for};
 ghost use Rattle.bf_bits.specs.Seats.{Seat, Holds};
 ghost use Rattle.bf_bits.specs.Words.{state_in};
-ghost use Rattle.bf_trackers.specs.Answers.{taken_as};
+ghost use Rattle.bf_trackers.specs.Answers.{claims_in, taken_as};
 ghost use Rattle.bf_trackers.specs.Seats.{seat_at, found_at, after_claim, after_end};
 
 use bf_bench::Taken;
@@ -79,6 +79,25 @@ impl TrackerSeats {
             Ending::Finished => bits.finish(seat, claim),
             Ending::GivenBack => bits.give_back(seat, claim),
         }
+        self.count -= 1;
+    }
+
+    /// Counts a claim of a key, if it is granted.
+    pub(crate) fn add_key(&mut self, taken: &Taken)
+        requires room { self.old.count + 1 < 2 ^ 32 }
+        ensures { self.new ≡ record self.old { count = self.old.count + claims_in taken.now } }
+    {
+        match taken {
+            Taken::Claimed(_) => self.count += 1,
+            Taken::Busy | Taken::Done => {}
+        }
+    }
+
+    /// Counts a claim of a key less.
+    pub(crate) fn drop_key(&mut self)
+        requires some { 0 < self.old.count }
+        ensures { self.new ≡ record self.old { count = self.old.count - 1 } }
+    {
         self.count -= 1;
     }
 }

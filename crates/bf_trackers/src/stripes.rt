@@ -1,10 +1,10 @@
 //! Stripes of keys, each under a lock of its own.
 
-ghost use Rattle.std.specs.Prelude.{◌≡◌, ◌<◌, ⊤, IfOk, OnErr, length};
-ghost use Rattle.bf_bench.specs.declared.bench.Taken.{Taken};
+ghost use Rattle.std.specs.Prelude.{◌<◌, IfOk};
 ghost use Rattle.bf_trackers.specs.Answers.{IsOfKey};
-ghost use Rattle.bf_trackers.specs.Stripes.{stripes};
+ghost use Rattle.bf_trackers.specs.Stripes.{stripe_count};
 
+use crate::seats::Ending;
 use bf_base::{Key, Memory, Value};
 use bf_bench::Taken;
 use bf_drive::Claim;
@@ -25,13 +25,13 @@ pub struct Stripes {
 
 impl Model for Stripes {
     ghost use Rattle.std.specs.Prelude.{ℕ, ◌≡◌, length};
-    ghost use Rattle.bf_trackers.specs.Stripes.{stripes};
+    ghost use Rattle.bf_trackers.specs.Stripes.{stripe_count};
 
     ghost Value = { ℕ };
 
     ghost view = { λ all. length all.stripes.items };
 
-    ghost invariant = { λ all. length all.stripes.items ≡ stripes };
+    ghost invariant = { λ all. length all.stripes.items ≡ stripe_count };
 }
 
 // Any odd number of 64 bits of which about half are set.
@@ -58,7 +58,7 @@ fn mixed_with(so_far: u64, value: &Value) -> u64 {
 
 // The stripe of a key: the highest four bits of its mixed values.
 fn stripe_of(key: &Key) -> usize
-    ensures { result < stripes }
+    ensures { result < stripe_count }
 {
     let mut all = 0;
     for value in key.as_slice() {
@@ -101,16 +101,14 @@ impl Stripes {
         })
     }
 
-    /// Marks a claimed key as done. Takes the lock of its stripe and no memory.
-    pub fn finish<R: Wait>(&self, rt: &R, claim: HashClaim) {
+    /// Ends a claim: its key is done, or free again. Takes the lock of its stripe and no memory.
+    pub(crate) fn end<R: Wait>(&self, rt: &R, claim: HashClaim, ending: Ending) {
         let stripe = self.of_key(claim.key());
-        stripe.lock(rt).finish(claim);
-    }
-
-    /// Frees a claimed key. Takes the lock of its stripe and no memory.
-    pub fn give_back<R: Wait>(&self, rt: &R, claim: HashClaim) {
-        let stripe = self.of_key(claim.key());
-        stripe.lock(rt).give_back(claim);
+        let mut states = stripe.lock(rt);
+        match ending {
+            Ending::Finished => states.finish(claim),
+            Ending::GivenBack => states.give_back(claim),
+        };
     }
 }
 

@@ -31,9 +31,16 @@ pub struct Trackers {
 }
 
 impl Model for Trackers {
-    ghost use Rattle.bf_trackers.specs.Migrations.{Trackers as Seen, AreOf};
+    ghost use Rattle.std.specs.Coded.{coded_list};
+    ghost use Rattle.boxcar.specs.Table.{where_coded};
+    ghost use Rattle.bf_image.specs.contracts.migration.Migration as migrations;
+    ghost use Rattle.bf_trackers.specs.contracts.units.UnitTracker as tracker;
+    ghost use Rattle.bf_trackers.specs.Migrations.{Trackers as Seen, AreOf, trackers_coded};
 
     ghost Value = { Seen };
+
+    ghost coded = { trackers_coded (where_coded migrations.the_row.coded)
+        (coded_list tracker.the_row.coded) };
 
     ghost view = { λ all. record { pass = all.pass; units = all.units } };
 

@@ -1,12 +1,11 @@
 //! The trackers of a migration's units, each with its own way to name a place.
 
-ghost use Rattle.std.specs.Prelude.{◌≡◌, ◌∷◌, ◌++◌, [], List, IfOk, OnErr, length, map};
+ghost use Rattle.std.specs.Prelude.{◌≡◌, ◌<◌, ◌≤◌, ◌∷◌, ◌++◌, [], List, IfOk, OnErr, length, map, slice_get};
+ghost use Rattle.std.specs.Option.{option_copied};
 ghost use Rattle.bf_bench.specs.Notes.{Stands};
 ghost use Rattle.bf_drive.specs.Lists.{Entry, most_granules};
 ghost use Rattle.bf_trackers.specs.declared.seats.Ending.TheVariants.{Finished, GivenBack};
-ghost use Rattle.bf_trackers.specs.Answers.{IsOfKey};
 ghost use Rattle.bf_trackers.specs.Holding.{AreFinished, HoldClaims};
-ghost use Rattle.bf_trackers.specs.Seats.{found_at};
 ghost use Rattle.bf_trackers.specs.Units.{AreDoneIn, AreMade, AreSeatsOf, HasPlace, IsAnswered, IsSeatOf, MayBeDone, first_seat_of, new_seat_of, positions_in, shape_of};
 
 use crate::seats::{Ending, TrackerSeats};
@@ -174,6 +173,13 @@ impl UnitTrackers {
         Ok(TrackerSeats { units, count: 0 })
     }
 
+    // The tracker of a unit.
+    fn unit(&self, number: u8) -> Option<&UnitTracker>
+        ensures { option_copied result ≡ slice_get self.now number }
+    {
+        self.units.get(number as usize)
+    }
+
     /// Claims a granule, by one step where its unit goes by rows, and else under the lock of its stripe:
     /// `Busy` where it is held, `Done` where it is done. A claim of a row takes no lock and no memory.
     ///
@@ -192,18 +198,22 @@ impl UnitTrackers {
         ensures answer { IfOk result (IsAnswered self.now seats.new granule.now) }
         ensures memory { OnErr result (seats.new ≡ seats.old) }
     {
-        match (self.units.get(granule.unit as usize), &granule.place) {
-            (Some(UnitTracker::Rows(bits)), Place::Row(at)) => {
-                Ok(seats.claim_row(bits, granule.unit, *at))
+        match self.unit(granule.unit) {
+            Some(UnitTracker::Rows(bits)) => {
+                let Place::Row(at) = granule.place else {
+                    unreachable!();
+                };
+                Ok(seats.claim_row(bits, granule.unit, at))
             }
-            (Some(UnitTracker::Keys(stripes)), Place::Group(key)) => {
+            Some(UnitTracker::Keys(stripes)) => {
+                let Place::Group(key) = &granule.place else {
+                    unreachable!();
+                };
                 let taken = stripes.claim(rt, key)?;
-                if let Taken::Claimed(_) = &taken {
-                    seats.count += 1;
-                }
+                seats.add_key(&taken);
                 Ok(taken)
             }
-            _ => unreachable!(),
+            None => unreachable!(),
         }
     }
 
@@ -223,18 +233,21 @@ impl UnitTrackers {
             → HoldClaims self.now seats.new rest }
         ensures finished { AreFinished ending ((granule.now, claim) ∷ []) seats.old seats.new }
     {
-        match (self.units.get(granule.unit as usize), claim) {
-            (Some(UnitTracker::Rows(bits)), Claim::Row(claim)) => {
+        match self.unit(granule.unit) {
+            Some(UnitTracker::Rows(bits)) => {
+                let Claim::Row(claim) = claim else {
+                    unreachable!();
+                };
                 seats.end_row(bits, granule.unit, claim, ending);
             }
-            (Some(UnitTracker::Keys(stripes)), Claim::Group(claim)) => {
-                match ending {
-                    Ending::Finished => stripes.finish(rt, claim),
-                    Ending::GivenBack => stripes.give_back(rt, claim),
-                }
-                seats.count -= 1;
+            Some(UnitTracker::Keys(stripes)) => {
+                let Claim::Group(claim) = claim else {
+                    unreachable!();
+                };
+                stripes.end(rt, claim, ending);
+                seats.drop_key();
             }
-            _ => unreachable!(),
+            None => unreachable!(),
         }
     }
 

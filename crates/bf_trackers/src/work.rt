@@ -5,7 +5,7 @@ ghost use Rattle.std.specs.List.{AllByRecursion};
 ghost use Rattle.boxcar.specs.Table.{Shows};
 ghost use Rattle.bf_base.specs.Lists.{placed, rises};
 ghost use Rattle.bf_bench.specs.Notes.{AreOfOneUnit};
-ghost use Rattle.bf_drive.specs.Lists.{granules_in};
+ghost use Rattle.bf_drive.specs.Lists.{IsWip, granules_in};
 ghost use Rattle.bf_store.specs.States.{AreGranules, granule_cmp, most_moved, place_cmp};
 ghost use Rattle.bf_store.specs.Stores.{migration_of};
 ghost use Rattle.bf_trackers.specs.Migrations.{IsGranuleOf};
@@ -26,9 +26,18 @@ pub struct Work {
 }
 
 impl Model for Work {
-    ghost use Rattle.bf_trackers.specs.Works.{Work as Seen, IsWork};
+    ghost use Rattle.std.specs.Coded.{coded_list, coded×};
+    ghost use Rattle.boxcar.specs.Table.{where_coded};
+    ghost use Rattle.bf_base.specs.contracts.granule.Granule as granule;
+    ghost use Rattle.bf_drive.specs.contracts.claim.Claim as claim;
+    ghost use Rattle.bf_image.specs.contracts.migration.Migration as migrations;
+    ghost use Rattle.bf_trackers.specs.Works.{Work as Seen, IsWork, work_coded};
 
     ghost Value = { Seen };
+
+    ghost coded = { work_coded (where_coded migrations.the_row.coded)
+        (coded_list (coded× granule.the_row.coded claim.the_row.coded))
+        (coded_list granule.the_row.coded) };
 
     ghost view = { λ work. record {
       pass = work.pass;
@@ -56,7 +65,8 @@ fn index_for(granules: &[Granule], granule: &Granule) -> usize
 
 // Copies of the granules of a list, in their order.
 fn in_order(alloc: Global, wip: &Wip) -> Result<Vec<Granule>, Memory>
-    ensures { IfOk result (λ granules. granules.items ≡ by_place (granules_in wip.now)) }
+    ensures sorted { IfOk result (λ granules. granules.items ≡ by_place (granules_in wip.now)) }
+    ensures sound { IsWip wip.now }
 {
     let mut granules = Vec::with_capacity(alloc, wip.len() as usize)?;
     for index in 0..wip.len() {
