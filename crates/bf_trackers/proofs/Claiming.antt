@@ -14,7 +14,6 @@ use Rattle.bf_bits.specs.Steps.{held_after}
 use Rattle.bf_bits.specs.Words.{state_in}
 use Rattle.bf_bits.specs.declared.answer.Look.{Look}
 use Rattle.bf_bits.specs.declared.answer.Look.TheVariants as look
-use Rattle.bf_bits.proofs.Counting.{times-here}
 use Rattle.bf_drive.specs.Claims.{key_of}
 use Rattle.bf_drive.specs.Lists.{Entry}
 use Rattle.bf_drive.specs.declared.claim.Claim.{Claim}
@@ -24,11 +23,11 @@ use Rattle.bf_trackers.specs.declared.seats.Ending.{Ending}
 use Rattle.bf_trackers.specs.declared.units.UnitTracker.{UnitTracker}
 use Rattle.bf_trackers.specs.declared.units.UnitTracker.TheVariants.{Rows, Keys}
 use Rattle.bf_trackers.specs.Answers.{IsOfKey, claims_in, taken_as}
-use Rattle.bf_trackers.specs.Holding.{AreFinished, HoldClaims, IsClaimed, IsClaimOf}
+use Rattle.bf_trackers.specs.Holding.{AreFinished, HoldClaims, IsClaimed, IsClaimOf, held_by}
 use Rattle.bf_trackers.specs.Seats.{Seats, seat_at, found_at, with_seat, after_claim, after_end, claimed_by, ended_by, one_if_free}
 use Rattle.bf_trackers.specs.Units.{AreSeatsOf, HasPlace, IsAnswered, IsAnswerOf, IsPlaceOf, IsThere, shape_of}
 use Rattle.bf_trackers.proofs.Holding.{finished_none, finished_one, held_as_before, held_key, held_more, key_spent, last_claimed, last_held, row_spent}
-use Rattle.bf_trackers.proofs.Lists.{all_last}
+use Rattle.bf_trackers.proofs.Lists.{all_last, same_number}
 use Rattle.bf_trackers.proofs.Seating.{held_was, row_seat}
 
 -- an item that is there
@@ -37,6 +36,9 @@ there P o x e is = subst (IsThere P) (sym e) is
 
 pub not_none : {X : Type 0} (P : X → Type 0) (o : Option X) → None ≡ o → IsThere P o → ⊥
 not_none P o e is = subst (IsThere P) (sym e) is
+
+is_first : (p : ℕ) (xs : List ℕ) → 0 < times p (p ∷ xs)
+is_first p xs = rw (same_number p p refl) (omega arith)
 
 module _ (units : List UnitTracker) (g : Granule) (bits : Tracker) (rows : Some (Rows bits) ≡ slice_get units g.unit) where
   at_rows : slice_get units g.unit ≡ Some (Rows bits)
@@ -48,8 +50,11 @@ module _ (units : List UnitTracker) (g : Granule) (bits : Tracker) (rows : Some 
 
     module _ (found : ℕ) (seat : Seat) (seated : seat_at old g.unit ≡ Some seat) (own : seat.table ≡ bits.table) (is : new ≡ after_claim old g.unit at found seat) where
       stands_by : (l : Look) → state_in found at ≡ l → Stands (HoldClaims units) g old new (Ok (taken_as (answer_for bits.table at l)))
-      stands_by look.Free e = (place, λ held h. subst (λ s. HoldClaims units s (held ++ (g, Row (record { table = bits.table; at = at })) ∷ [])) (sym (is ∙ ap (λ l. with_seat old g.unit (claimed_by at found seat) (old.count + one_if_free l)) e))
-          (held_more units old held h g bits (record { table = bits.table; at = at }) seat (claimed_by at found seat) at_rows seated own refl (ap (λ l. held_after at l seat.view.held) e) claimed_row))
+      stands_by look.Free e = (
+        place,
+        λ held h. subst (λ s. HoldClaims units s (held ++ (g, Row (record { table = bits.table; at = at })) ∷ [])) (sym (is ∙ ap (λ l. with_seat old g.unit (claimed_by at found seat) (old.count + one_if_free l)) e))
+            (held_more units old held h g bits (record { table = bits.table; at = at }) seat (claimed_by at found seat) at_rows seated own refl (ap (λ l. held_after at l seat.view.held) e) claimed_row),
+      )
       stands_by look.Held e = λ held h. subst (λ s. HoldClaims units s held) (sym (is ∙ ap (λ l. with_seat old g.unit (claimed_by at found seat) (old.count + one_if_free l)) e ∙ ap (with_seat old g.unit (claimed_by at found seat)) none))
           (held_as_before units old held h g.unit bits seat (claimed_by at found seat) at_rows seated own refl (ap (λ l. held_after at l seat.view.held) e))
         where
@@ -84,8 +89,7 @@ module _ (units : List UnitTracker) (g : Granule) (bits : Tracker) (rows : Some 
       row_held =
           let seat = row_seat units old.units h.own g.unit bits old.count at_rows in
           let held = sym (held_was old g.unit seat.0 seat.0 0 seat.1) ∙ last_held units old rest g claim (as_row rest h) in
-          let one : 0 < times claim.at (claim.at ∷ _) = (let here = times-here claim.at _ in omega arith) in
-          (seat.0, seat.1, seat.2, subst (λ hs. 0 < times claim.at hs) (sym held) one)
+          (seat.0, seat.1, seat.2, subst (λ hs. 0 < times claim.at hs) (sym held) (is_first claim.at (held_by g.unit rest)))
 
     module _ (ending : Ending) (found : ℕ) (new : Seats) (step : (seat : Seat) → seat_at old g.unit ≡ Some seat → new ≡ after_end ending old g.unit claim.at found seat) where
       pub row_ends : (rest : List Entry) → HoldClaims units old (rest ++ (g, any) ∷ []) → HoldClaims units new rest
@@ -110,9 +114,11 @@ module _ (units : List UnitTracker) (g : Granule) (count : ℕ) (keys : Some (Ke
   pub key_stands : (key : List Value) → g.place ≡ AtKey key → (old new : Seats) (taken : Taken) → IsOfKey key taken → new ≡ record old { count = old.count + claims_in taken } → Stands (HoldClaims units) g old new (Ok taken)
   key_stands key place old new (taken.Claimed (Row c)) of_key is = absurd of_key
   key_stands key place old new (taken.Claimed (Group c)) of_key is =
-      let of : c.key ≡ key_of g.place = of_key ∙ sym (ap key_of place) in
-      (of, λ held h. subst (λ s. HoldClaims units s (held ++ (g, Group c) ∷ [])) (sym is)
-      (held_key units old held h (g, Group c) (λ b e. absurd cc) (of, subst (IsThere (IsClaimOf (Group c))) keys tt)))
+      let of : c.key ≡ key_of g.place = of_key ∙ sym (ap key_of place) in (
+        of,
+        λ held h. subst (λ s. HoldClaims units s (held ++ (g, Group c) ∷ [])) (sym is)
+            (held_key units old held h (g, Group c) (λ b e. absurd cc) (of, subst (IsThere (IsClaimOf (Group c))) keys tt)),
+      )
   key_stands key place old new taken.Busy of_key is = λ held h. subst (λ s. HoldClaims units s held) (sym is) record { own = h.own; each = h.each; count = (let same = h.count in omega arith); rows = h.rows }
   key_stands key place old new taken.Done of_key is = λ held h. subst (λ s. HoldClaims units s held) (sym is) record { own = h.own; each = h.each; count = (let same = h.count in omega arith); rows = h.rows }
 
@@ -141,5 +147,5 @@ module _ (units : List UnitTracker) (g : Granule) (old : Seats) (any : Claim) (r
 
 -- a claim of keys is no other
 pub not_of_keys : (any : Claim) (count : ℕ) → IsClaimOf any (Keys count) → ((key : HashClaim) → any ≡ Group key → ⊥) → ⊥
-not_of_keys (Row claim) count is no = is
-not_of_keys (Group key) count is no = no key refl
+not_of_keys (Row claim) count is other_claim = is
+not_of_keys (Group key) count is other_claim = other_claim key refl

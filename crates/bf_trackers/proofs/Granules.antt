@@ -21,7 +21,7 @@ use Rattle.bf_trackers.specs.declared.units.UnitTracker.{UnitTracker}
 use Rattle.bf_trackers.specs.Migrations.{AreOf, IsGranuleOf, shape_in, shapes_of}
 use Rattle.bf_trackers.specs.Units.{HasPlace, IsPlaceOf, IsThere, shape_of}
 
-same_from_test : (m n : ℕ) → (m == n) ≡ true → m ≡ n
+pub same_from_test : (m n : ℕ) → (m == n) ≡ true → m ≡ n
 same_from_test m n e = grind (arith, nat_tests)
 
 -- one of two tests holds
@@ -55,7 +55,9 @@ key_place (key ∷ keys) (Row at) h = key_place keys (Row at) h
 key_place (key ∷ keys) (Group other) h = tt
 
 in_unit : (old : Database) (form : UnitForm) (p : Place) → has same_place (places_in old form) p ≡ true → IsPlaceOf p (shape_in old form)
-in_unit old (rows_unit driver) p h = row_place 0 (length (table_rows old driver)) p h
+in_unit old (rows_unit driver) p h =
+    let none : 0 + length (table_rows old driver) ≡ length (table_rows old driver) = omega arith in
+    subst (λ n. IsPlaceOf p (shape.Rows n)) none (row_place 0 (length (table_rows old driver)) p h)
 in_unit old (values_unit target arm) p h = key_place _ p h
 
 -- a granule of some numbered units
@@ -81,7 +83,7 @@ module _ (m : Migration) (g : Granule) (one : IsGranuleOf m g) where
   pub shape_there : (s : Shape) × (slice_get (shapes_of m) g.unit ≡ Some s) × IsPlaceOf g.place s
   shape_there =
       let f = found in
-      let number : g.unit ≡ f.at = f.number in
+      let number : g.unit ≡ f.at = (let e = f.number in omega arith) in
       (shape_in (old_of m) f.form, ap (slice_get (shapes_of m)) number ∙ slice_get-map (shape_in (old_of m)) (units_in m) f.at ∙ ap (option_map (shape_in (old_of m))) f.there, f.place)
 
   pub has_place : (units : List UnitTracker) → AreOf m units → HasPlace units g

@@ -34,9 +34,9 @@ held_elsewhere : (unit : ℕ) (entries : List Entry) (entry : Entry) → (entry.
 held_elsewhere unit entries entry ne = held_snoc unit entries entry ∙ ap (λ b. held_if b entry.1 (held_by unit entries)) (other_number (entry.0).unit unit ne)
 
 of_key : (b : Bool) (claim : Claim) (held : List ℕ) → ((c : BitClaim) → claim ≡ Row c → ⊥) → held_if b claim held ≡ held
-of_key true (Row c) held no = absurd (no c refl)
-of_key true (Group c) held no = refl
-of_key false claim held no = refl
+of_key true (Row c) held other_claim = absurd (other_claim c refl)
+of_key true (Group c) held other_claim = refl
+of_key false claim held other_claim = refl
 
 -- ---- claims of rows
 module _ (units : List UnitTracker) (seats : Seats) (entries : List Entry) (h : HoldClaims units seats entries) where
@@ -70,11 +70,11 @@ module _ (units : List UnitTracker) (seats : Seats) (entries : List Entry) (h : 
 
   -- a key more
   pub held_key : (entry : Entry) → ((c : BitClaim) → entry.1 ≡ Row c → ⊥) → IsClaimed units entry → HoldClaims units (record seats { count = seats.count + 1 }) (entries ++ entry ∷ [])
-  held_key entry no claimed = record {
+  held_key entry other_claim claimed = record {
     own = h.own;
     each = all_snoc (IsClaimed units) entries entry h.each claimed;
     count = ap (λ n. n + 1) h.count ∙ sym (length-append entries (entry ∷ []));
-    rows = λ other. h.rows other ∙ sym (held_snoc other entries entry ∙ of_key ((entry.0).unit == other) entry.1 (held_by other entries) no);
+    rows = λ other. h.rows other ∙ sym (held_snoc other entries entry ∙ of_key ((entry.0).unit == other) entry.1 (held_by other entries) other_claim);
   }
 
 -- ---- the end of the last claim
@@ -105,11 +105,11 @@ module _ (units : List UnitTracker) (seats : Seats) (rest : List Entry) (granule
         dropped = rw (same_number claim.at claim.at refl) refl
 
   pub key_spent : (claim : Claim) → ((c : BitClaim) → claim ≡ Row c → ⊥) → HoldClaims units seats (rest ++ (granule, claim) ∷ []) → HoldClaims units (record seats { count = seats.count - 1 }) rest
-  key_spent claim no h = record {
+  key_spent claim other_claim h = record {
     own = h.own;
     each = all_front (IsClaimed units) rest (granule, claim) h.each;
     count = (let more = h.count in omega (arith, length-append rest ((granule, claim) ∷ [])));
-    rows = λ other. h.rows other ∙ held_snoc other rest (granule, claim) ∙ of_key (granule.unit == other) claim (held_by other rest) no;
+    rows = λ other. h.rows other ∙ held_snoc other rest (granule, claim) ∙ of_key (granule.unit == other) claim (held_by other rest) other_claim;
   }
 
 -- ---- what is finished
@@ -122,12 +122,12 @@ module _ (ending : Ending) (granule : Granule) (claim : BitClaim) (seats : Seats
   ]
 
 no_row : (ending : Ending) (b : Bool) (claim : Claim) (finished : List ℕ) → ((c : BitClaim) → claim ≡ Row c → ⊥) → finished_if ending b claim finished ≡ finished
-no_row ending true (Row c) finished no = absurd (no c refl)
-no_row ending true (Group c) finished no = refl
-no_row ending false claim finished no = refl
+no_row ending true (Row c) finished other_claim = absurd (other_claim c refl)
+no_row ending true (Group c) finished other_claim = refl
+no_row ending false claim finished other_claim = refl
 
 pub finished_none : (ending : Ending) (granule : Granule) (claim : Claim) (seats : Seats) (count : ℕ) → ((c : BitClaim) → claim ≡ Row c → ⊥) → AreFinished ending ((granule, claim) ∷ []) seats (record seats { count = count })
-finished_none ending granule claim seats count no other = sym (no_row ending (granule.unit == other) claim (finished_at seats other) no)
+finished_none ending granule claim seats count other_claim other = sym (no_row ending (granule.unit == other) claim (finished_at seats other) other_claim)
 
 -- one claim ends, and behind it those that ended before
 pub finished_more : (ending : Ending) (entry : Entry) (entries : List Entry) (old now new : Seats) → AreFinished ending entries old now → AreFinished ending (entry ∷ []) now new → AreFinished ending (entry ∷ entries) old new

@@ -75,6 +75,12 @@ module _ {X : Type 0} where
       let there = get_there (x ∷ xs) (length (x ∷ xs) - 1) (omega arith) in
       absurd (none-some there.0 (last ∙ there.1))
 
+  pub none_left : (xs ys : List X) → None ≡ slice_get xs (length xs - 1) → ys ≡ take (length xs - 1) xs → ys ≡ []
+  none_left [] ys last rest = rest
+  none_left (x ∷ xs) ys last rest =
+      let there = get_there (x ∷ xs) (length (x ∷ xs) - 1) (omega arith) in
+      absurd (none-some there.0 (last ∙ there.1))
+
   -- a front with the next item
   take_suc : (xs : List X) (i : ℕ) (x : X) → slice_get xs i ≡ Some x → take (suc i) xs ≡ take i xs ++ x ∷ []
   take_suc [] i x at = absurd (none-some x at)

@@ -57,7 +57,9 @@ fn positions_done(alloc: Global, unit: u8, done: &[Granule]) -> Result<Vec<u32>,
 {
     let mut positions = Vec::new(alloc);
     for granule in done {
-        if granule.unit == unit && let Place::Row(at) = granule.place {
+        if granule.unit == unit
+            && let Place::Row(at) = granule.place
+        {
             positions.push(at)?;
         }
     }
@@ -68,7 +70,9 @@ fn positions_done(alloc: Global, unit: u8, done: &[Granule]) -> Result<Vec<u32>,
 fn keys_done(alloc: Global, unit: u8, done: &[Granule]) -> Result<Vec<Key>, Memory> {
     let mut keys = Vec::new(alloc);
     for granule in done {
-        if granule.unit == unit && let Place::Group(key) = &granule.place {
+        if granule.unit == unit
+            && let Place::Group(key) = &granule.place
+        {
             keys.push(key.copy(alloc)?)?;
         }
     }

@@ -8,7 +8,7 @@ use Rattle.bf_trackers.proofs.trackers.Trackers.give_back.Goals as goal
 pub give_back-requires : goal.give_back-requires
 give_back-requires g c =
     let r = c.requires.holds in
-    (r.0, subst (λ (w : Trackers). HoldClaims w.units c.args.seats.now (r.0 ++ (c.args.granule.now, c.args.claim) ∷ [])) (sym c.self.view_is) r.1.held)
+    record { holds = (r.0, subst (λ (w : Trackers). HoldClaims w.units c.args.seats.now (r.0 ++ (c.args.granule.now, c.args.claim) ∷ [])) (sym c.self.view_is) r.1.held) }
 
 pub returns-clause-holds : goal.returns-clause-holds
 returns-clause-holds g c =
