@@ -1,0 +1,21 @@
+//! A checker of printed histories: whether a report, ours or another program's, is one that the one-thread database
+//! could have given for a script.
+#![tactic(auto)]
+
+mod audit;
+pub mod checking;
+mod files;
+mod groups;
+pub mod laws;
+mod order;
+pub mod program;
+mod replay;
+mod rest;
+pub mod status;
+pub mod verdict;
+mod words;
+
+pub use checking::check;
+pub use program::run_check;
+pub use status::CheckStatus;
+pub use verdict::{LONGEST_REPORT, Verdict};

@@ -1,0 +1,5 @@
+pub mod Behind
+pub mod Lines
+pub mod Reading
+pub mod Reports
+pub mod Room
