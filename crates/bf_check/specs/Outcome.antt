@@ -1,22 +1,22 @@
 -- OUTCOME of a call of `check`: which status comes when, and what is written.
 use Rattle.std.specs.Prelude.{◌≡◌, ◌⊎◌, ℕ, ◌<◌, List, ◌++◌, length, codes, Option, None, Some, Ok, Err, ⊤}
-use Rattle.std.specs.Fmt.{decimal}
 use Rattle.std.specs.Io.KnownBytes.{Appends, IsAtEnd, Keeps}
 use Rattle.bf_io.specs.Causes.{Rose}
 use Rattle.bf_io.specs.Whole.{IfTold, TookPrefix}
 use Rattle.bf_lex.specs.Faults.{kind_text}
 use Rattle.bf_lex.specs.declared.fault.ScriptFault.{ScriptFault}
-use Rattle.bf_text.specs.Replies.{newline, numbered, place_text}
+use Rattle.bf_text.specs.Replies.{newline, numbered}
 use Rattle.bf_tree.specs.declared.script.Script.{Script}
-use Rattle.bf_check.specs.Accepted.{longest_report}
+use Rattle.bf_verdict.specs.Accepted.{longest_report}
 use Rattle.bf_check.specs.Asked.{Asked}
-use Rattle.bf_check.specs.Beginning.{database_behind}
+use Rattle.bf_verdict.specs.Beginning.{database_behind}
 use Rattle.bf_check.specs.Files.{CountsFault, CountsNone, Files, IsScriptAt, StartsWith}
-use Rattle.bf_check.specs.Verdicts.{Judges}
+use Rattle.bf_verdict.specs.Verdicts.{Judges}
 use Rattle.bf_check.specs.declared.status.CheckStatus.{CheckStatus}
 use Rattle.bf_check.specs.declared.status.CheckStatus.TheVariants.{Done, Usage, Script as ScriptError, ReadFault, WriteFault, DiskFault, Memory, No}
-use Rattle.bf_check.specs.declared.verdict.Verdict.{Verdict}
-use Rattle.bf_check.specs.declared.verdict.Verdict.TheVariants.{Yes, NotAReport, BadEntry, BadReply, BadRest, BadAudit}
+use Rattle.bf_verdict.specs.declared.verdict.Verdict.{Verdict}
+use Rattle.bf_verdict.specs.declared.verdict.Verdict.TheVariants.{Yes}
+use Rattle.bf_verdict.specs.Texts.{verdict_text}
 
 -- STREAM: the bytes that a source has left, or that a sink took, where they are told, and its count of faults, each before and after
 -- a call
@@ -31,15 +31,6 @@ IsCalm stream = stream.faults_after ≡ stream.faults
 
 abbrev pub IsUnread : Stream → Type 0
 IsUnread input = Keeps input.bytes input.bytes_after × IsCalm input
-
--- the line of a verdict
-abbrev pub verdict_text : Verdict → List ℕ
-verdict_text Yes = codes "yes" ++ newline
-verdict_text (NotAReport at) = numbered (codes "no report ") at ++ newline
-verdict_text (BadEntry k) = numbered (codes "no entry ") k ++ newline
-verdict_text (BadReply s n) = codes "no reply " ++ place_text s n ++ newline
-verdict_text (BadRest s n) = codes "no rest " ++ place_text s n ++ newline
-verdict_text (BadAudit name) = codes "no audit " ++ name ++ newline
 
 -- the first fault of a text that is no script, behind the byte where it stands
 abbrev pub fault_text : ScriptFault → List ℕ

@@ -2,11 +2,11 @@
 
 use crate::order::Order;
 use crate::replay::Replay;
-use crate::verdict::{LONGEST_REPORT, Verdict};
 use crate::{audit, rest};
 use bf_base::Memory;
 use bf_report::{Reading, ReportError, read_report};
 use bf_tree::Script;
+use bf_verdict::{LONGEST_REPORT, Verdict};
 use std::alloc::Global;
 
 /// What is told of a report that was read.

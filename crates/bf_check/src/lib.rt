@@ -6,16 +6,14 @@ mod audit;
 pub mod checking;
 mod files;
 mod groups;
-pub mod laws;
 mod order;
 pub mod program;
 mod replay;
 mod rest;
 pub mod status;
-pub mod verdict;
 mod words;
 
+pub use bf_verdict::{LONGEST_REPORT, Verdict};
 pub use checking::check;
 pub use program::run_check;
 pub use status::CheckStatus;
-pub use verdict::{LONGEST_REPORT, Verdict};

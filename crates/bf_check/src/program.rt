@@ -8,12 +8,12 @@ ghost use Rattle.bf_check.specs.Outcome.{IsAnswer, IsOutcome};
 use crate::checking::check;
 use crate::files::{FileError, script_in};
 use crate::status::{CheckStatus, fault_line};
-use crate::verdict::{LONGEST_REPORT, Verdict, verdict_line};
 use crate::words::{Paths, read_words};
 use bf_base::{Memory, Sequence};
 use bf_disk::Shelf;
 use bf_io::{ReadError, Sink, Source, read_all, write_whole};
 use bf_tree::Script;
+use bf_verdict::{LONGEST_REPORT, Verdict, verdict_line};
 use std::alloc::Global;
 
 /// The scripts that words name: the one to start with, and the one that the report is of.

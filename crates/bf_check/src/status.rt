@@ -3,10 +3,10 @@
 ghost use Rattle.std.specs.Prelude.{◌≡◌, IfOk};
 ghost use Rattle.bf_check.specs.Outcome.{fault_text, number_of_status};
 
-use crate::verdict::Verdict;
 use bf_base::Memory;
 use bf_lex::ScriptFault;
 use bf_text::put_number;
+use bf_verdict::Verdict;
 use std::alloc::Global;
 
 /// How a call of `check` ends.

@@ -1,13 +1,14 @@
 -- What a text begins with: a thing by its text, and what stands behind it.
-use Rattle.std.specs.Prelude.{◌≡◌, ℕ, Bool, true, false, ◌&&◌, List, [], ◌∷◌, ◌++◌, length, codes, Option, None, Some, IsTrue}
+use Rattle.std.specs.Prelude.{◌≡◌, ℕ, Bool, true, false, ◌&&◌, ◌||◌, ◌==◌, nat_le, List, [], ◌∷◌, ◌++◌, length, map, flat_map, codes, Option, None, Some, IsTrue}
 use Rattle.std.specs.List.{list_all}
 use Rattle.bf_base.specs.Names.{is_digit, is_name, is_name_byte}
 use Rattle.bf_text.specs.Numbers.{are_u64, is_u64, numbers_in_cause}
-use Rattle.bf_text.specs.Replies.{cause_text, newline, numbered, place_text, reply_text}
+use Rattle.bf_text.specs.Replies.{cause_text, cell_text, listed, newline, numbered, place_text, quoted, reply_text}
 use Rattle.bf_text.specs.Told.{is_named}
-use Rattle.bf_report.specs.Room.{cell_has_room, reply_has_room, table_has_room}
+use Rattle.bf_verdict.specs.Room.{cell_has_room, reply_has_room, table_has_room, value_has_room}
 use Rattle.bf_tree.specs.declared.reply.Cause.{Cause}
 use Rattle.bf_tree.specs.declared.reply.Cell.{Cell}
+use Rattle.bf_tree.specs.declared.reply.Cell.TheVariants as cells
 use Rattle.bf_tree.specs.declared.reply.Reply.{Reply}
 use Rattle.bf_tree.specs.declared.reply.Reply.TheVariants.{Rows}
 
@@ -39,6 +40,13 @@ EndsNumber = ends is_digit
 
 abbrev pub EndsName : List ℕ → Type 0
 EndsName = ends is_name_byte
+
+-- behind a text stands no quote, and behind a value neither
+abbrev pub EndsText : List ℕ → Type 0
+EndsText = ends (λ b. b == 39)
+
+abbrev pub EndsValue : List ℕ → Type 0
+EndsValue = ends (λ b. is_digit b || b == 39)
 
 -- behind a line anything stands
 abbrev pub EndsLine : List ℕ → Type 0
@@ -75,3 +83,23 @@ row_has_room row = list_all cell_has_room row
 
 abbrev pub table_fits : List ℕ × ℕ → Bool
 table_fits table = is_name table.0 && table_has_room table
+
+-- a text behind its first quote, with its last one
+abbrev pub quoted_text : List ℕ → List ℕ
+quoted_text bytes = flat_map quoted bytes ++ codes "'"
+
+-- a number that is at most so great
+abbrev pub is_at_most : ℕ → ℕ → Bool
+is_at_most most n = nat_le n most
+
+-- what a list of values stands before: the end that closes it
+abbrev pub closed : List ℕ → List Cell → List ℕ
+closed end cells = listed (map cell_text cells) ++ end
+
+-- a cell that is a value, or may be none
+abbrev pub item_has_room : Bool → Cell → Bool
+item_has_room or_none cells.Null = or_none
+item_has_room or_none (cells.Value v) = value_has_room v
+
+abbrev pub items_have_room : Bool → List Cell → Bool
+items_have_room or_none items = list_all (item_has_room or_none) items

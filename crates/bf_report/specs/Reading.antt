@@ -6,7 +6,7 @@ use Rattle.bf_tree.specs.declared.script.Script.{Script}
 use Rattle.bf_text.specs.Replies.{reply_text}
 use Rattle.bf_text.specs.Report.{commits_of, end_text, table_line}
 use Rattle.bf_report.specs.declared.reading.Reading.{Reading}
-use Rattle.bf_report.specs.Reports.{IsReport, Parts}
+use Rattle.bf_verdict.specs.Reports.{IsReport, Parts}
 
 module _ (bytes : List ℕ) where
   -- a text stands at a place

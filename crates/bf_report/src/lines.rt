@@ -8,7 +8,7 @@ ghost use Rattle.std.specs.Prelude.{option_map, option_copied};
 ghost use Rattle.bf_text.specs.Report.{end_text, entry_text, table_line};
 ghost use Rattle.bf_text.specs.Replies.{row_line};
 ghost use Rattle.bf_report.specs.Lines.{EndsLine, Passes, Reads, ReadsHead, cause_has_room, cause_line_text, row_has_room, table_fits};
-ghost use Rattle.bf_report.specs.Room.{entry_has_room, sweep_has_room};
+ghost use Rattle.bf_verdict.specs.Room.{entry_has_room, sweep_has_room};
 
 use crate::pieces::{items, name, number, short_number};
 use crate::telling::{Place, behind, behind_numbered, behind_place};

@@ -3,7 +3,7 @@
 ghost use Rattle.std.specs.Prelude.{◌≡◌, ℕ, ◌<◌, ◌^◌, IfOk, length};
 ghost use Rattle.bf_text.specs.Report.{commits_of};
 ghost use Rattle.bf_report.specs.Reading.{IsReadingOf};
-ghost use Rattle.bf_report.specs.Reports.{IsNoReport, Parts};
+ghost use Rattle.bf_verdict.specs.Reports.{IsNoReport, Parts};
 
 use crate::error::ReportError;
 use crate::lines::{end_line, entry_line, reply_line, row_line, table_line};

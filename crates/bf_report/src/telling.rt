@@ -3,9 +3,9 @@
 //! Each function answers what stands behind a text of which it is told, and `None` exactly where another text stands
 //! there. None takes memory, and each takes time linear in what it compares.
 
-ghost use Rattle.std.specs.Prelude.{◌≡◌, ◌++◌, ℕ, List, codes, flat_map, length, map, option_copied};
+ghost use Rattle.std.specs.Prelude.{◌++◌, ℕ, List, codes, flat_map, length, map, option_copied};
 ghost use Rattle.std.specs.Fmt.{decimal, signed_decimal};
-ghost use Rattle.bf_report.specs.Behind.{behind};
+ghost use Rattle.bf_report.specs.Behind.{IsBehind};
 ghost use Rattle.bf_text.specs.Replies.{body_text, cause_text, cell_text, listed, newline, numbered, place_text, quoted, refusal_text, reply_text, row_line, value_text};
 
 use bf_base::{Name, Sequence, Value};
@@ -21,40 +21,43 @@ pub struct Place {
 
 /// Behind these words.
 pub(crate) fn behind<'a>(text: &'a [u8], words: &[u8]) -> Option<&'a [u8]>
-    ensures { option_copied result ≡ behind words.now text.now }
+    ensures { IsBehind words.now text.now (option_copied result) }
 {
     text.strip_prefix(words)
 }
 
 /// Behind a number.
 pub(crate) fn behind_decimal(text: &[u8], number: u64) -> Option<&[u8]>
-    ensures { option_copied result ≡ behind (decimal number) text.now }
+    ensures { IsBehind (decimal number) text.now (option_copied result) }
 {
     behind(text, Buffer::new().format(number).as_bytes())
 }
 
 /// Behind a number, a negative one behind a minus.
 fn behind_signed(text: &[u8], number: i64) -> Option<&[u8]>
-    ensures { option_copied result ≡ behind (signed_decimal number) text.now }
+    ensures { IsBehind (signed_decimal number) text.now (option_copied result) }
 {
     behind(text, Buffer::new().format(number).as_bytes())
 }
 
 /// Behind words before a number.
+#[tactic(auto, using(crate::proofs::Behind::telling))]
 pub(crate) fn behind_numbered<'a>(text: &'a [u8], words: &[u8], number: u64) -> Option<&'a [u8]>
-    ensures { option_copied result ≡ behind (numbered words.now number) text.now }
+    ensures { IsBehind (numbered words.now number) text.now (option_copied result) }
 {
     behind_decimal(behind(text, words)?, number)
 }
 
 /// Behind words before a name.
+#[tactic(auto, using(crate::proofs::Behind::telling))]
 fn behind_named<'a>(text: &'a [u8], words: &[u8], name: &Name) -> Option<&'a [u8]>
-    ensures { option_copied result ≡ behind (words.now ++ name.now) text.now }
+    ensures { IsBehind (words.now ++ name.now) text.now (option_copied result) }
 {
     behind(behind(text, words)?, name.as_bytes())
 }
 
 /// Behind words before a name, and further words before a number.
+#[tactic(auto, using(crate::proofs::Behind::telling))]
 fn behind_named_numbered<'a>(
     text: &'a [u8],
     words: &[u8],
@@ -62,8 +65,8 @@ fn behind_named_numbered<'a>(
     further: &[u8],
     number: u64,
 ) -> Option<&'a [u8]>
-    ensures { option_copied result
-        ≡ behind ((words.now ++ name.now) ++ numbered further.now number) text.now }
+    ensures { IsBehind ((words.now ++ name.now) ++ numbered further.now number)
+        text.now (option_copied result) }
 {
     behind_numbered(behind_named(text, words, name)?, further, number)
 }
@@ -74,12 +77,12 @@ trait Told {
 
     /// Behind its text.
     fn behind_it<'a>(&self, bytes: &'a [u8]) -> Option<&'a [u8]>
-        ensures { option_copied result ≡ behind (text self.now) bytes.now };
+        ensures { IsBehind (text self.now) bytes.now (option_copied result) };
 }
 
 /// Behind the texts of things, with nothing between.
 fn behind_each<'a, T: Told>(text: &'a [u8], things: &[T]) -> Option<&'a [u8]>
-    ensures { option_copied result ≡ behind (flat_map T.text things.now) text.now }
+    ensures { IsBehind (flat_map T.text things.now) text.now (option_copied result) }
 {
     let mut rest = text;
     for thing in things {
@@ -90,8 +93,8 @@ fn behind_each<'a, T: Told>(text: &'a [u8], things: &[T]) -> Option<&'a [u8]>
 
 /// Behind the texts of things, each behind a comma and a space.
 fn behind_further<'a, T: Told>(text: &'a [u8], things: &[T]) -> Option<&'a [u8]>
-    ensures { option_copied result
-        ≡ behind (flat_map (λ y. codes ", " ++ y) (map T.text things.now)) text.now }
+    ensures { IsBehind (flat_map (λ y. codes ", " ++ y) (map T.text things.now))
+        text.now (option_copied result) }
 {
     let mut rest = text;
     for thing in things {
@@ -101,8 +104,9 @@ fn behind_further<'a, T: Told>(text: &'a [u8], things: &[T]) -> Option<&'a [u8]>
 }
 
 /// Behind the texts of things, with a comma and a space between.
+#[tactic(auto, using(crate::proofs::Behind::telling))]
 fn behind_listed<'a, T: Told>(text: &'a [u8], things: &[T]) -> Option<&'a [u8]>
-    ensures { option_copied result ≡ behind (listed (map T.text things.now)) text.now }
+    ensures { IsBehind (listed (map T.text things.now)) text.now (option_copied result) }
 {
     match things {
         [] => Some(text),
@@ -148,8 +152,9 @@ impl Told for Cell {
 }
 
 /// Behind a refusal.
+#[tactic(auto, using(crate::proofs::Behind::telling))]
 fn behind_refusal<'a>(text: &'a [u8], refusal: &Refusal) -> Option<&'a [u8]>
-    ensures { option_copied result ≡ behind (refusal_text refusal.now) text.now }
+    ensures { IsBehind (refusal_text refusal.now) text.now (option_copied result) }
 {
     match refusal {
         Refusal::NoTable(name) => behind_named(text, b"E1 no table ", name),
@@ -184,8 +189,9 @@ fn behind_refusal<'a>(text: &'a [u8], refusal: &Refusal) -> Option<&'a [u8]>
 }
 
 /// Behind a cause.
+#[tactic(auto, using(crate::proofs::Behind::telling))]
 fn behind_cause(text: &[u8], cause: Cause) -> Option<&[u8]>
-    ensures { option_copied result ≡ behind (cause_text cause) text.now }
+    ensures { IsBehind (cause_text cause) text.now (option_copied result) }
 {
     match cause {
         Cause::Died(holder) => behind_numbered(text, b"died older ", holder),
@@ -199,33 +205,38 @@ fn behind_cause(text: &[u8], cause: Cause) -> Option<&[u8]>
 }
 
 /// Behind a place.
+#[tactic(auto, using(crate::proofs::Behind::telling))]
 pub(crate) fn behind_place(text: &[u8], place: Place) -> Option<&[u8]>
-    ensures { option_copied result ≡ behind (place_text place.session place.statement) text.now }
+    ensures { IsBehind (place_text place.session place.statement)
+        text.now (option_copied result) }
 {
     behind_numbered(behind_decimal(text, place.session)?, b".", place.statement)
 }
 
 /// Behind words before a number, and the end of the line.
+#[tactic(auto, using(crate::proofs::Behind::telling))]
 fn behind_count<'a>(text: &'a [u8], words: &[u8], count: u64) -> Option<&'a [u8]>
-    ensures { option_copied result ≡ behind (numbered words.now count ++ newline) text.now }
+    ensures { IsBehind (numbered words.now count ++ newline) text.now (option_copied result) }
 {
     behind(behind_numbered(text, words, count)?, b"\n")
 }
 
 /// Behind the line of a row.
+#[tactic(auto, using(crate::proofs::Behind::telling))]
 fn behind_row<'a>(text: &'a [u8], place: Place, row: &[Cell]) -> Option<&'a [u8]>
-    ensures { option_copied result
-        ≡ behind (row_line place.session place.statement row.now) text.now }
+    ensures { IsBehind (row_line place.session place.statement row.now)
+        text.now (option_copied result) }
 {
     let rest = behind(behind_place(text, place)?, b" | ")?;
     behind(behind_listed(rest, row)?, b"\n")
 }
 
 /// Behind the number of rows, and their lines.
+#[tactic(auto, using(crate::proofs::Behind::telling))]
 fn behind_rows<'a>(text: &'a [u8], place: Place, rows: &[Sequence<Cell>]) -> Option<&'a [u8]>
-    ensures { option_copied result
-        ≡ behind (numbered (codes "rows ") (length rows.now) ++ newline
-        ++ flat_map (row_line place.session place.statement) rows.now) text.now }
+    ensures { IsBehind (numbered (codes "rows ") (length rows.now) ++ newline
+        ++ flat_map (row_line place.session place.statement) rows.now)
+        text.now (option_copied result) }
 {
     let mut rest = behind_count(text, b"rows ", rows.len() as u64)?;
     for row in rows {
@@ -235,9 +246,10 @@ fn behind_rows<'a>(text: &'a [u8], place: Place, rows: &[Sequence<Cell>]) -> Opt
 }
 
 /// Behind a reply without its place.
+#[tactic(auto, using(crate::proofs::Behind::telling))]
 fn behind_body<'a>(text: &'a [u8], place: Place, reply: &Reply) -> Option<&'a [u8]>
-    ensures { option_copied result
-        ≡ behind (body_text place.session place.statement reply.now) text.now }
+    ensures { IsBehind (body_text place.session place.statement reply.now)
+        text.now (option_copied result) }
 {
     match reply {
         Reply::Created => behind(text, b"created\n"),
@@ -256,9 +268,10 @@ fn behind_body<'a>(text: &'a [u8], place: Place, reply: &Reply) -> Option<&'a [u
 
 /// Behind the reply to a statement: its place, and its lines. `None` exactly where the text does not begin with the
 /// reply. Takes no memory, and time linear in the reply's text.
+#[tactic(auto, using(crate::proofs::Behind::telling))]
 pub fn behind_reply<'a>(text: &'a [u8], place: Place, reply: &Reply) -> Option<&'a [u8]>
-    ensures { option_copied result
-        ≡ behind (reply_text place.session place.statement reply.now) text.now }
+    ensures { IsBehind (reply_text place.session place.statement reply.now)
+        text.now (option_copied result) }
 {
     behind_body(behind(behind_place(text, place)?, b" ")?, place, reply)
 }

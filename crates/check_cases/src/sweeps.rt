@@ -3,9 +3,10 @@
 use crate::parts::Parts;
 use anyhow::bail;
 use bf_base::Sequence;
-use bf_check::{Verdict, check};
+use bf_check::check;
 use bf_parse::script;
 use bf_tree::Script;
+use bf_verdict::Verdict;
 use std::alloc::Global;
 
 /// The words of lines of which not all is judged.

@@ -8,7 +8,7 @@ use Rattle.bf_tree.specs.declared.history.Sweep.{Sweep}
 use Rattle.bf_tree.specs.declared.script.Script.{Script}
 use Rattle.bf_text.specs.Report.{report_text}
 use Rattle.bf_text.specs.Told.{IsTold}
-use Rattle.bf_report.specs.Room.{reply_has_room, entry_has_room, table_has_room, sweep_has_room}
+use Rattle.bf_verdict.specs.Room.{reply_has_room, entry_has_room, table_has_room, sweep_has_room}
 
 -- PARTS: what a report tells. The replies by session, the transactions in the order of their ends, the names of the audit's tables
 -- with the numbers of their rows, and how far the last migration has come. An audit of no tables reads like none

@@ -1,8 +1,8 @@
 //! A law of the definitions. It is the contract of a function that does nothing.
 
 ghost use Rattle.std.specs.Prelude.{◌≡◌, ℕ, List};
-ghost use Rattle.bf_check.specs.Verdicts.{Judges};
-ghost use Rattle.bf_check.specs.declared.verdict.Verdict.{Verdict as Told};
+ghost use Rattle.bf_verdict.specs.Verdicts.{Judges};
+ghost use Rattle.bf_verdict.specs.declared.verdict.Verdict.{Verdict as Told};
 ghost use Rattle.bf_sql.specs.Database.{Database};
 ghost use Rattle.bf_tree.specs.declared.script.Script.{Script};
 

@@ -2,7 +2,7 @@
 
 ghost use Rattle.std.specs.Prelude.{◌≡◌, ◌++◌, IfOk};
 ghost use Rattle.bf_text.specs.Replies.{newline, numbered, place_text};
-ghost use Rattle.bf_check.specs.Outcome.{verdict_text};
+ghost use Rattle.bf_verdict.specs.Texts.{verdict_text};
 
 use bf_base::{Memory, Name};
 use bf_text::put_number;
@@ -67,7 +67,7 @@ fn name_line(alloc: Global, words: &[u8], name: &Name) -> Result<Vec<u8>, Memory
 }
 
 /// The line that tells a verdict.
-pub(crate) fn verdict_line(alloc: Global, verdict: &Verdict) -> Result<Vec<u8>, Memory>
+pub fn verdict_line(alloc: Global, verdict: &Verdict) -> Result<Vec<u8>, Memory>
     ensures { IfOk result (λ text. text.items ≡ verdict_text verdict.now) }
 {
     match verdict {

@@ -3,16 +3,16 @@ use Rattle.std.specs.Prelude.{◌≡◌, ◌≢◌, ◌⊎◌, ℕ, ◌+◌, ◌
 use Rattle.std.specs.List.{AllByRecursion, list_all, range_with_len}
 use Rattle.std.specs.declared.cmp.Ordering.TheVariants.{Less}
 use Rattle.bf_base.specs.Lists.{name_cmp, same_name, with_before}
-use Rattle.bf_report.specs.Reports.{IsNoReport, IsReport, Parts}
+use Rattle.bf_verdict.specs.Reports.{IsNoReport, IsReport, Parts}
 use Rattle.bf_sql.specs.Database.{Database}
 use Rattle.bf_sql.specs.Groups.{outcomes_from, statements_of}
 use Rattle.bf_sql.specs.History.{IsApart, IsLegalHistory, apart, is_whole_group, may_precede, replayed, told}
 use Rattle.bf_tree.specs.declared.history.Entry.{Entry}
 use Rattle.bf_tree.specs.declared.reply.Reply.{Reply}
 use Rattle.bf_tree.specs.declared.script.Script.{Script}
-use Rattle.bf_check.specs.Accepted.{AnyCause, IsAccepted, longest_report, none_open, rows_counted}
-use Rattle.bf_check.specs.declared.verdict.Verdict.{Verdict}
-use Rattle.bf_check.specs.declared.verdict.Verdict.TheVariants.{Yes, NotAReport, BadEntry, BadReply, BadRest, BadAudit}
+use Rattle.bf_verdict.specs.Accepted.{AnyCause, IsAccepted, longest_report, none_open, rows_counted}
+use Rattle.bf_verdict.specs.declared.verdict.Verdict.{Verdict}
+use Rattle.bf_verdict.specs.declared.verdict.Verdict.TheVariants.{Yes, NotAReport, BadEntry, BadReply, BadRest, BadAudit}
 
 -- the first of a list of which something holds
 pub record IsFirst {X : Type 0} (Holds : X → Type 0) (xs : List X) (x : X) : Type 0 where

@@ -1,7 +1,7 @@
 -- ACCEPTED: a report that the one-thread database could have given, but for groups that a cause has ended. Which cause that was,
 -- and how far the last migration has come, is not judged.
 use Rattle.std.specs.Prelude.{◌≡◌, ◌⊎◌, ℕ, ◌≤◌, ◌^◌, Bool, false, List, [], length, map, ⊤}
-use Rattle.bf_report.specs.Reports.{IsReport, Parts}
+use Rattle.bf_verdict.specs.Reports.{IsReport, Parts}
 use Rattle.bf_sql.specs.Database.{Database}
 use Rattle.bf_sql.specs.History.{IsLegalHistory, replayed}
 use Rattle.bf_tree.specs.declared.reply.Cause.{Cause}
