@@ -1,5 +1,10 @@
 //! The audit of a report beside the tables of a database.
 
+ghost use Rattle.std.specs.Prelude.{◌≡◌, ◌++◌, flat_map, IfOk};
+ghost use Rattle.bf_check.specs.Judging.{Audited, JudgesAudit};
+ghost use Rattle.bf_text.specs.Report.{end_text, table_line};
+ghost use Rattle.bf_verdict.specs.Reports.{AreTablesByName};
+
 use bf_base::{Memory, Name, NameError, Table};
 use bf_eager::Eager;
 use bf_report::table_line;
@@ -20,7 +25,13 @@ pub(crate) fn first_wrong(
     alloc: Global,
     database: &Eager,
     lines: &[u8],
-) -> Result<Option<Name>, Memory> {
+) -> Result<Option<Name>, Memory>
+    ghost audited: { Audited }
+    requires tables { AreTablesByName audited.tables }
+    requires lines { lines.now
+        ≡ flat_map table_line audited.tables ++ end_text audited.commits audited.sweep }
+    ensures { IfOk result (JudgesAudit database.now.database audited.tables) }
+{
     let mut rest = lines;
     if table_line(rest).is_none() {
         return Ok(None);

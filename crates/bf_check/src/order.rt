@@ -1,5 +1,9 @@
 //! Whether the entries of a report are transactions of the script, in an order that it allows, and end as it has them.
 
+ghost use Rattle.std.specs.Prelude.{[], IfOk};
+ghost use Rattle.bf_tree.specs.declared.script.Script.{Script as ScriptTold};
+ghost use Rattle.bf_check.specs.Judging.{EntersAll, IsOrderBehind};
+
 use crate::groups::{Group, counted, groups_of};
 use bf_base::Memory;
 use bf_tree::{Entry, Outcome, Script, Session};
@@ -61,7 +65,9 @@ pub(crate) struct Order {
 
 impl Order {
     /// Before the first entry.
-    pub fn of(alloc: Global, script: &Script) -> Result<Order, Memory> {
+    pub fn of(alloc: Global, script: &Script) -> Result<Order, Memory>
+        ensures { IfOk result (IsOrderBehind script.now []) }
+    {
         let mut sessions = Vec::with_capacity(alloc, script.sessions.len())?;
         for session in script.sessions.as_slice() {
             sessions.push(SessionGroups::of(alloc, session)?)?;
@@ -101,7 +107,11 @@ impl Order {
     }
 
     /// Enters transactions in turn. The number of the first that may not stand behind those before it, if there is one.
-    pub fn enter_all(&mut self, entries: &[Entry]) -> Result<Option<u32>, Memory> {
+    pub fn enter_all(&mut self, entries: &[Entry]) -> Result<Option<u32>, Memory>
+        ghost script: { ScriptTold }
+        requires { IsOrderBehind script [] self.old }
+        ensures { IfOk result (EntersAll script entries.now self.new) }
+    {
         for (index, entry) in entries.iter().enumerate() {
             if !self.enter(entry) {
                 return Ok(Some(counted(index)?));

@@ -1,5 +1,11 @@
 //! The one-thread database behind a report's entries, and its replies.
 
+ghost use Rattle.std.specs.Prelude.{◌≡◌, [], ◌∷◌, ◌++◌, IfOk};
+ghost use Rattle.bf_check.specs.Judging.{HasReplayed, Judged, RunsEntry};
+ghost use Rattle.bf_report.specs.Reading.{IsReadingOf};
+ghost use Rattle.bf_verdict.specs.Beginning.{IsWithinLimits, database_behind};
+ghost use Rattle.bf_verdict.specs.Verdicts.{MayStand};
+
 use crate::groups::groups_of;
 use bf_base::Memory;
 use bf_eager::Eager;
@@ -37,7 +43,10 @@ impl Replay {
     }
 
     /// The database behind the transactions of a script, one session after the other.
-    pub fn behind(alloc: Global, start: &Script) -> Result<Replay, Memory> {
+    pub fn behind(alloc: Global, start: &Script) -> Result<Replay, Memory>
+        requires { IsWithinLimits start.now }
+        ensures { IfOk result (HasReplayed (database_behind start.now) start.now []) }
+    {
         let mut replay = Replay::empty(alloc);
         for session in start.sessions.as_slice() {
             replay.run_session(alloc, session)?;
@@ -62,7 +71,17 @@ impl Replay {
         report: &[u8],
         reading: &Reading,
         entry: &Entry,
-    ) -> Result<Option<u32>, Memory> {
+    ) -> Result<Option<u32>, Memory>
+        ghost judged: { Judged }
+        requires script { script.now ≡ judged.script }
+        requires limits { IsWithinLimits script.now }
+        requires reading { IsReadingOf script.now report.now judged.parts reading.now }
+        requires order { MayStand script.now judged.parts.history }
+        requires next { judged.parts.history ≡ judged.done ++ entry.now ∷ judged.later }
+        requires replayed { HasReplayed judged.start script.now judged.done self.old }
+        ensures { IfOk result
+            (RunsEntry judged.start script.now judged.parts judged.done entry.now self.new) }
+    {
         let session = entry.session as usize - 1;
         let first = entry.first as usize - 1;
         let statements = script.sessions.as_slice()[session].statements.as_slice();

@@ -1,5 +1,9 @@
 //! The statements of a script that stand in no entry.
 
+ghost use Rattle.std.specs.Prelude.{IfOk};
+ghost use Rattle.bf_check.specs.Judging.{IsOrderBehind, Judged, JudgesRest};
+ghost use Rattle.bf_report.specs.Reading.{IsReadingOf};
+
 use crate::groups::{Group, counted};
 use crate::order::{Listed, Order};
 use bf_base::Memory;
@@ -72,7 +76,12 @@ pub(crate) fn first_wrong(
     report: &[u8],
     reading: &Reading,
     order: &Order,
-) -> Result<Option<(u32, u32)>, Memory> {
+) -> Result<Option<(u32, u32)>, Memory>
+    ghost judged: { Judged }
+    requires reading { IsReadingOf judged.script report.now judged.parts reading.now }
+    requires order { IsOrderBehind judged.script judged.parts.history order.now }
+    ensures { IfOk result (JudgesRest judged.script judged.parts) }
+{
     let sessions = order.sessions.iter().zip(&reading.replies);
     for (index, (session, places)) in sessions.enumerate() {
         let told = Told {

@@ -71,54 +71,67 @@ fn behind_named_numbered<'a>(
     behind_numbered(behind_named(text, words, name)?, further, number)
 }
 
-/// What has a text.
+/// What has a text at a place.
 trait Told {
-    ghost text: { Self → List ℕ };
+    /// What the text tells beside the thing.
+    type At: Copy;
+
+    ghost text: { Self.At → Self → List ℕ };
 
     /// Behind its text.
-    fn behind_it<'a>(&self, bytes: &'a [u8]) -> Option<&'a [u8]>
-        ensures { IsBehind (text self.now) bytes.now (option_copied result) };
+    fn behind_it<'a>(&self, bytes: &'a [u8], at: Self::At) -> Option<&'a [u8]>
+        ensures { IsBehind (text at self.now) bytes.now (option_copied result) };
 }
 
 /// Behind the texts of things, with nothing between.
-fn behind_each<'a, T: Told>(text: &'a [u8], things: &[T]) -> Option<&'a [u8]>
-    ensures { IsBehind (flat_map T.text things.now) text.now (option_copied result) }
+fn behind_each<'a, T: Told>(text: &'a [u8], at: T::At, things: &[T]) -> Option<&'a [u8]>
+    ensures { IsBehind (flat_map (T.text at) things.now) text.now (option_copied result) }
 {
     let mut rest = text;
     for thing in things {
-        rest = thing.behind_it(rest)?;
+        rest = thing.behind_it(rest, at)?;
     }
     Some(rest)
 }
 
+/// Behind the text of a thing, and a comma and a space before it.
+#[tactic(auto, using(crate::proofs::Behind::telling))]
+fn behind_comma<'a, T: Told>(text: &'a [u8], at: T::At, thing: &T) -> Option<&'a [u8]>
+    ensures { IsBehind (codes ", " ++ T.text at thing.now) text.now (option_copied result) }
+{
+    thing.behind_it(behind(text, b", ")?, at)
+}
+
 /// Behind the texts of things, each behind a comma and a space.
-fn behind_further<'a, T: Told>(text: &'a [u8], things: &[T]) -> Option<&'a [u8]>
-    ensures { IsBehind (flat_map (λ y. codes ", " ++ y) (map T.text things.now))
+fn behind_further<'a, T: Told>(text: &'a [u8], at: T::At, things: &[T]) -> Option<&'a [u8]>
+    ensures { IsBehind (flat_map (λ y. codes ", " ++ y) (map (T.text at) things.now))
         text.now (option_copied result) }
 {
     let mut rest = text;
     for thing in things {
-        rest = thing.behind_it(behind(rest, b", ")?)?;
+        rest = behind_comma(rest, at, thing)?;
     }
     Some(rest)
 }
 
 /// Behind the texts of things, with a comma and a space between.
 #[tactic(auto, using(crate::proofs::Behind::telling))]
-fn behind_listed<'a, T: Told>(text: &'a [u8], things: &[T]) -> Option<&'a [u8]>
-    ensures { IsBehind (listed (map T.text things.now)) text.now (option_copied result) }
+fn behind_listed<'a, T: Told>(text: &'a [u8], at: T::At, things: &[T]) -> Option<&'a [u8]>
+    ensures { IsBehind (listed (map (T.text at) things.now)) text.now (option_copied result) }
 {
     match things {
         [] => Some(text),
-        [first, further @ ..] => behind_further(first.behind_it(text)?, further),
+        [first, further @ ..] => behind_further(first.behind_it(text, at)?, at, further),
     }
 }
 
 /// A byte of a text, between its quotes.
 impl Told for u8 {
-    ghost text = { quoted };
+    type At = ();
 
-    fn behind_it<'a>(&self, bytes: &'a [u8]) -> Option<&'a [u8]> {
+    ghost text = { λ _. quoted };
+
+    fn behind_it<'a>(&self, bytes: &'a [u8], _at: ()) -> Option<&'a [u8]> {
         if *self == b'\'' {
             return behind(bytes, b"''");
         }
@@ -127,25 +140,29 @@ impl Told for u8 {
 }
 
 impl Told for Value {
-    ghost text = { value_text };
+    type At = ();
 
-    fn behind_it<'a>(&self, bytes: &'a [u8]) -> Option<&'a [u8]> {
+    ghost text = { λ _. value_text };
+
+    fn behind_it<'a>(&self, bytes: &'a [u8], _at: ()) -> Option<&'a [u8]> {
         match self {
             Value::Int(number) => behind_signed(bytes, *number),
             Value::Text(text) => {
                 let rest = behind(bytes, b"'")?;
-                behind(behind_each(rest, text.as_bytes())?, b"'")
+                behind(behind_each(rest, (), text.as_bytes())?, b"'")
             }
         }
     }
 }
 
 impl Told for Cell {
-    ghost text = { cell_text };
+    type At = ();
 
-    fn behind_it<'a>(&self, bytes: &'a [u8]) -> Option<&'a [u8]> {
+    ghost text = { λ _. cell_text };
+
+    fn behind_it<'a>(&self, bytes: &'a [u8], at: ()) -> Option<&'a [u8]> {
         match self {
-            Cell::Value(value) => value.behind_it(bytes),
+            Cell::Value(value) => value.behind_it(bytes, at),
             Cell::Null => behind(bytes, b"NULL"),
         }
     }
@@ -162,7 +179,7 @@ fn behind_refusal<'a>(text: &'a [u8], refusal: &Refusal) -> Option<&'a [u8]>
         Refusal::TypeMismatch => behind(text, b"E3 type mismatch"),
         Refusal::DuplicateKey(key) => {
             let rest = behind(text, b"E4 duplicate key (")?;
-            behind(behind_listed(rest, key.as_slice())?, b")")
+            behind(behind_listed(rest, (), key.as_slice())?, b")")
         }
         Refusal::OutOfRange => behind(text, b"E5 out of range"),
         Refusal::TooLong => behind(text, b"E6 too long"),
@@ -221,14 +238,16 @@ fn behind_count<'a>(text: &'a [u8], words: &[u8], count: u64) -> Option<&'a [u8]
     behind(behind_numbered(text, words, count)?, b"\n")
 }
 
-/// Behind the line of a row.
-#[tactic(auto, using(crate::proofs::Behind::telling))]
-fn behind_row<'a>(text: &'a [u8], place: Place, row: &[Cell]) -> Option<&'a [u8]>
-    ensures { IsBehind (row_line place.session place.statement row.now)
-        text.now (option_copied result) }
-{
-    let rest = behind(behind_place(text, place)?, b" | ")?;
-    behind(behind_listed(rest, row)?, b"\n")
+/// A row that SELECT gives, as a line.
+impl Told for Sequence<Cell> {
+    type At = Place;
+
+    ghost text = { λ place. row_line place.session place.statement };
+
+    fn behind_it<'a>(&self, bytes: &'a [u8], at: Place) -> Option<&'a [u8]> {
+        let rest = behind(behind_place(bytes, at)?, b" | ")?;
+        behind(behind_listed(rest, (), self.as_slice())?, b"\n")
+    }
 }
 
 /// Behind the number of rows, and their lines.
@@ -238,11 +257,11 @@ fn behind_rows<'a>(text: &'a [u8], place: Place, rows: &[Sequence<Cell>]) -> Opt
         ++ flat_map (row_line place.session place.statement) rows.now)
         text.now (option_copied result) }
 {
-    let mut rest = behind_count(text, b"rows ", rows.len() as u64)?;
-    for row in rows {
-        rest = behind_row(rest, place, row.as_slice())?;
-    }
-    Some(rest)
+    behind_each(
+        behind_count(text, b"rows ", rows.len() as u64)?,
+        place,
+        rows,
+    )
 }
 
 /// Behind a reply without its place.

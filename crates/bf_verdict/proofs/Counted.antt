@@ -1,5 +1,6 @@
 -- What a report has room for has at most 64 bits, so its bytes determine what it tells.
-use Rattle.std.proofs.Common.{◌≡◌, ℕ, ◌+◌, ◌^◌, ◌<◌, ◌≤◌, Bool, true, ◌&&◌, IsTrue, nat_lt, List, [], ◌∷◌, ◌++◌, length, flat_map, Option, Some, ℤ, pos, negsuc, unsigned_abs, refl, sym, ap, ◌∙◌, arith}
+use Rattle.std.proofs.Common.{◌≡◌, ℕ, ◌+◌, ◌^◌, ◌<◌, ◌≤◌, Bool, true, ◌&&◌, IsTrue, List, [], ◌∷◌, ◌++◌, length, flat_map, Option, Some, ℤ, pos, negsuc, unsigned_abs, refl, sym, ap, ◌∙◌, arith}
+use Rattle.std.specs.Prelude.{nat_lt}
 use Rattle.std.specs.List.{list_all}
 use Rattle.std.proofs.lemmas.Bool.{and_from, and_parts, lt-ltb, ltb-true}
 use Rattle.std.proofs.lemmas.List.Folds.{list_all-append}
@@ -111,10 +112,10 @@ sweep_counted (Running m moved unit position) h =
 counted : (script : Script) (p : Parts) → AreOf script p → IsCounted p.transcripts p.history (Some p.audit) p.sweep
 counted script p h = record {
   replies = each (λ replies. list_all reply_has_room replies) (λ told. list_all (λ r. are_u64 (numbers_in r)) told)
-      (λ replies k. each reply_has_room (λ r. are_u64 (numbers_in r)) reply_counted replies k) p.transcripts h.replies_have_room;
-  entries = each entry_has_room (λ e. are_u64 (numbers_in_entry e)) entry_counted p.history h.entries_have_room;
-  tables = each table_has_room (λ table. is_u64 table.1) (λ table k. short table.1 k) p.audit h.tables_have_room;
-  sweep = sweep_counted p.sweep h.sweep_has_room;
+      (λ replies k. each reply_has_room (λ r. are_u64 (numbers_in r)) reply_counted replies k) p.transcripts h.replies_room;
+  entries = each entry_has_room (λ e. are_u64 (numbers_in_entry e)) entry_counted p.history h.entries_room;
+  tables = each table_has_room (λ table. is_u64 table.1) (λ table k. short table.1 k) p.audit h.tables_room;
+  sweep = sweep_counted p.sweep h.sweep_room;
 }
 
 -- a report tells one thing alone

@@ -26,7 +26,7 @@ use Rattle.bf_verdict.proofs.Fronts.{take_stands}
 
 same_fault : (script : Script) (bytes : List ℕ) (a b : ℕ) → IsNoReport script bytes a → IsNoReport script bytes b → a ≡ b
 same_fault script bytes a b f g = elim (cases_order a b) [
-  inl same ↦ same
+  | inl same ↦ same
   | inr differ ↦ elim differ [ inl less ↦ absurd (f.longest b less g.within g.begins) | inr less ↦ absurd (g.longest a less f.within f.begins) ]
 ]
 
@@ -44,7 +44,7 @@ not_none script bytes a p (inr f) short r = f.1.none p r
 
 same_entry : (script : Script) (entries : List Entry) (k j : ℕ) → IsBadEntry script entries k → IsBadEntry script entries j → k ≡ j
 same_entry script entries k j f g = elim (cases_order k j) [
-  inl same ↦ same
+  | inl same ↦ same
   | inr differ ↦ elim differ [ inl less ↦ absurd (f.bad (g.good_before k less)) | inr less ↦ absurd (g.bad (f.good_before j less)) ]
 ]
 
@@ -90,9 +90,9 @@ module _ (start : Database) (script : Script) (p : Parts) where
   abbrev IsWrong : ℕ × ℕ × Reply → Type 0
   IsWrong a = IsApart script AnyCause p.transcripts a → ⊥
 
-  none_wrong : (as : List (ℕ × ℕ × Reply)) → AllByRecursion (IsApart script AnyCause p.transcripts) as → AllByRecursion (λ a. IsWrong a → ⊥) as
+  none_wrong : (rest : List (ℕ × ℕ × Reply)) → AllByRecursion (IsApart script AnyCause p.transcripts) rest → AllByRecursion (λ a. IsWrong a → ⊥) rest
   none_wrong [] h = tt
-  none_wrong (a ∷ as) h = (λ wrong. wrong h.0, none_wrong as h.1)
+  none_wrong (a ∷ rest) h = (λ wrong. wrong h.0, none_wrong rest h.1)
 
   rest_is_right : (s n : ℕ) → IsBadRest start script p s n → IsLegalHistory script AnyCause none_open start p.transcripts p.history → ⊥
   rest_is_right s n f h =

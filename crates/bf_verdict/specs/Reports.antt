@@ -2,6 +2,7 @@
 use Rattle.std.specs.Prelude.{◌≡◌, ℕ, ◌<◌, ◌≤◌, ◌==◌, Bool, true, List, [], ◌∷◌, ◌++◌, length, map, take, Some, IsTrue}
 use Rattle.std.specs.List.{list_all}
 use Rattle.bf_base.specs.Lists.{name_cmp, rises}
+use Rattle.bf_base.specs.Names.{is_name}
 use Rattle.bf_tree.specs.declared.reply.Reply.{Reply}
 use Rattle.bf_tree.specs.declared.history.Entry.{Entry}
 use Rattle.bf_tree.specs.declared.history.Sweep.{Sweep}
@@ -21,15 +22,21 @@ pub record Parts : Type 0 where
 abbrev pub text_of : Parts → List ℕ
 text_of parts = report_text parts.transcripts parts.history (Some parts.audit) parts.sweep
 
+-- tables by their names, each of which is a name, with numbers of 32 bits
+pub record AreTablesByName (tables : List (List ℕ × ℕ)) : Type 0 where
+  pub named : IsTrue (list_all (λ table. is_name table.0) tables)
+  pub by_name : IsTrue (rises name_cmp (map (λ table. table.0) tables))
+  pub have_room : IsTrue (list_all table_has_room tables)
+
 -- what a report tells of a script: a reply to every statement, the tables of the audit by their names, and numbers and texts that
 -- their places have room for
 pub record AreOf (script : Script) (parts : Parts) : Type 0 where
   pub told : IsTold script parts.transcripts (Some parts.audit)
   pub by_name : IsTrue (rises name_cmp (map (λ table. table.0) parts.audit))
-  pub replies_have_room : IsTrue (list_all (λ replies. list_all reply_has_room replies) parts.transcripts)
-  pub entries_have_room : IsTrue (list_all entry_has_room parts.history)
-  pub tables_have_room : IsTrue (list_all table_has_room parts.audit)
-  pub sweep_has_room : IsTrue (sweep_has_room parts.sweep)
+  pub replies_room : IsTrue (list_all (λ replies. list_all reply_has_room replies) parts.transcripts)
+  pub entries_room : IsTrue (list_all entry_has_room parts.history)
+  pub tables_room : IsTrue (list_all table_has_room parts.audit)
+  pub sweep_room : IsTrue (sweep_has_room parts.sweep)
 
 -- REPORT: the bytes are the report of a script that tells this
 pub record IsReport (script : Script) (bytes : List ℕ) (parts : Parts) : Type 0 where
