@@ -1,5 +1,5 @@
 -- Bytes have one verdict at most.
-use Rattle.std.proofs.Common.{◌≡◌, ◌≢◌, ◌⊎◌, ℕ, ◌<◌, ◌≤◌, inl, inr, List, [], ◌∷◌, ◌++◌, length, map, flat_map, take, zip, refl, sym, ap, subst, ◌∙◌, arith}
+use Rattle.std.proofs.Common.{◌≡◌, ◌≢◌, ◌⊎◌, ℕ, ◌≤◌, inl, inr, List, [], ◌∷◌, ◌++◌, length, map, flat_map, zip, refl, sym, ap, subst, ◌∙◌, arith}
 use Rattle.std.specs.List.{AllByRecursion}
 use Rattle.std.proofs.lemmas.Bool.{cases_order}
 use Rattle.std.specs.declared.cmp.Ordering.{Ordering}
@@ -13,9 +13,9 @@ use Rattle.bf_sql.specs.History.{IsApart, IsLegalHistory, apart, replayed, told}
 use Rattle.bf_tree.specs.declared.history.Entry.{Entry}
 use Rattle.bf_tree.specs.declared.reply.Reply.{Reply}
 use Rattle.bf_tree.specs.declared.script.Script.{Script}
-use Rattle.bf_verdict.specs.Accepted.{AnyCause, IsAccepted, longest_report, none_open, rows_counted}
+use Rattle.bf_verdict.specs.Accepted.{AnyCause, longest_report, none_open, rows_counted}
 use Rattle.bf_verdict.specs.Reports.{IsNoReport, IsReport, Parts}
-use Rattle.bf_verdict.specs.Verdicts.{IsBadAudit, IsBadEntry, IsBadReply, IsBadRest, IsFirstApart, IsJudged, IsNone, Judges, MayStand, compared, places_of, rows_under}
+use Rattle.bf_verdict.specs.Verdicts.{IsBadAudit, IsBadEntry, IsBadReply, IsBadRest, IsFirstApart, IsNone, Judges, MayStand, compared, places_of, rows_under}
 use Rattle.bf_verdict.specs.declared.verdict.Verdict.{Verdict}
 use Rattle.bf_verdict.specs.declared.verdict.Verdict.TheVariants.{Yes, NotAReport, BadEntry, BadReply, BadRest, BadAudit}
 use Rattle.bf_verdict.proofs.Counted.{same_parts}
