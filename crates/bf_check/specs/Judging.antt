@@ -1,7 +1,6 @@
 -- ON THE WAY to a verdict: what is found of entries, replies and tables.
 use Rattle.std.specs.Prelude.{◌≡◌, ◌≢◌, ℕ, ◌+◌, Bool, ◌&&◌, ◌==◌, nat_le, max, List, [], ◌∷◌, ◌++◌, length, map, fold, take_while, zip, Option, None, Some, ⊤}
 use Rattle.std.specs.List.{AllByRecursion, list_any}
-use Rattle.bf_report.specs.declared.reading.Reading.{Reading}
 use Rattle.bf_sql.specs.Database.{Database}
 use Rattle.bf_sql.specs.Groups.{groups_of, session_at, statements_of}
 use Rattle.bf_sql.specs.History.{IsApart, apart, commits_with, replayed, settled, told}

@@ -1,7 +1,7 @@
 -- Texts one behind the other, in bytes that are read from the left.
 use denote.Ref.{Bor}
 use Rattle.std.specs.Option.{MatchOption, option_copied}
-use Rattle.std.proofs.Common.{◌≡◌, ◌≢◌, ℕ, List, [], ◌∷◌, ◌++◌, Option, Some, None, refl, sym, ap, ◌∙◌, append_assoc, append-nil}
+use Rattle.std.proofs.Common.{◌≡◌, ◌≢◌, ℕ, List, ◌++◌, Option, Some, None, sym, ap, ◌∙◌, append_assoc}
 use Rattle.std.proofs.lemmas.List.{append_cancel_left}
 use Rattle.bf_report.specs.Behind.{IsBehind}
 

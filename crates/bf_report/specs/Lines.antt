@@ -1,5 +1,5 @@
 -- What a text begins with: a thing by its text, and what stands behind it.
-use Rattle.std.specs.Prelude.{◌≡◌, ℕ, Bool, true, false, ◌&&◌, ◌||◌, ◌==◌, nat_le, List, [], ◌∷◌, ◌++◌, length, map, flat_map, codes, Option, None, Some, IsTrue}
+use Rattle.std.specs.Prelude.{◌≡◌, ℕ, Bool, false, ◌&&◌, ◌||◌, ◌==◌, nat_le, List, [], ◌∷◌, ◌++◌, length, map, flat_map, codes, Option, None, Some, IsTrue}
 use Rattle.std.specs.List.{list_all}
 use Rattle.bf_base.specs.Names.{is_digit, is_name, is_name_byte}
 use Rattle.bf_text.specs.Numbers.{are_u64, is_u64, numbers_in_cause}

@@ -13,7 +13,7 @@ ghost use Rattle.bf_verdict.specs.Room.{is_i64, is_text, is_u32};
 use crate::telling::{behind, behind_decimal};
 use bf_base::{LONGEST_NAME, LONGEST_TEXT};
 
-/// The value of the digits that a text begins with, and how many they are. `None` where it has more than 64 bits.
+/// The value of the digits that a text begins with, 0 where there are none. `None` where it has more than 64 bits.
 fn digits(text: &[u8]) -> Option<u64> {
     let mut value = 0u64;
     for byte in text {
