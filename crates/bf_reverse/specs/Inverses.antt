@@ -61,9 +61,16 @@ source_back db m source = target_back (table_at db source) (unwrap_or (copies_of
 abbrev pub migrate_back : Database → Migrate → Migrate
 migrate_back db m = record { targets = map (source_back db m) (sources_of m) }
 
+-- the names of columns of a table
+abbrev pub names_at : Table → List ℕ → List (List ℕ)
+names_at table places = map (λ place. slice_index_or (column_names table) place []) places
+
 -- the statement that creates an index again
+abbrev pub index_on : Table → IndexRule → Statement
+index_on table rule = statement.CreateIndex rule.name rule.table (names_at table rule.columns)
+
 abbrev pub index_back : Database → IndexRule → Statement
-index_back db rule = statement.CreateIndex rule.name rule.table (map (λ place. slice_index_or (column_names (table_at db rule.table)) place []) rule.columns)
+index_back db rule = index_on (table_at db rule.table) rule
 
 -- those of the sources, by name
 abbrev pub indexes_back : Database → Migrate → List Statement

@@ -1,15 +1,16 @@
 -- A MIGRATE that is taken back: what stands then.
-use Rattle.std.specs.Prelude.{◌≡◌, ℕ, ◌+◌, ◌⊎◌, ◌&&◌, Bool, true, false, not, List, [], ◌∷◌, ◌++◌, length, take, Option, Some, None, is_some, nat_eq, IsTrue}
+use Rattle.std.specs.Prelude.{◌≡◌, ℕ, ◌+◌, ◌⊎◌, Bool, true, false, not, List, [], ◌∷◌, ◌++◌, length, take, Option, Some, None, is_some, nat_eq, nat_lt, IsTrue}
 use Rattle.std.specs.Global.{Vec}
 use Rattle.std.specs.List.{list_all}
 use Rattle.bf_base.specs.Lists.{has, with_before}
 use Rattle.bf_tree.specs.declared.catalog.IndexRule.{IndexRule}
 use Rattle.bf_tree.specs.declared.migration.Migrate.{Migrate}
+use Rattle.bf_tree.specs.declared.migration.Target.{Target}
 use Rattle.bf_tree.specs.declared.reply.Reply.{Reply}
 use Rattle.bf_tree.specs.declared.reply.Reply.TheVariants as reply
 use Rattle.bf_tree.specs.declared.statement.Statement.{Statement}
 use Rattle.bf_tree.specs.declared.statement.Statement.TheVariants as statement
-use Rattle.bf_sql.specs.Database.{Database, IsDatabase}
+use Rattle.bf_sql.specs.Database.{Database}
 use Rattle.bf_sql.specs.migrations.Images.{flipped}
 use Rattle.bf_eager.specs.Beginnings.{first_against}
 use Rattle.bf_eager.specs.Eager.{Ran, ran_entry}
@@ -38,6 +39,13 @@ has_different_columns rule = list_all (λ p. not (has nat_eq p.0 p.1)) (with_bef
 
 abbrev pub HasCreatedIndexes : Database → Type 0
 HasCreatedIndexes db = IsTrue (list_all has_different_columns db.indexes)
+
+-- a MIGRATE as a script has it: each target has an arm
+abbrev pub has_arms : Target → Bool
+has_arms target = nat_lt 0 (length target.arms)
+
+abbrev pub HasArms : Migrate → Type 0
+HasArms m = IsTrue (list_all has_arms m.targets)
 
 -- a MIGRATE that is not refused, all of whose sources are whole
 pub record CanBeUndone (db : Database) (m : Migrate) : Type 0 where
@@ -71,5 +79,8 @@ IsUndoAnswer old m (Some replies) new = HasUndone old m replies.items new
 IsUndoAnswer old m None new = (IsTrue (is_some (first_against old.database m)) ⊎ IsTrue (is_some (first_lossy old.database m))) × (new ≡ old)
 
 -- some of the statements were run, from the first on
+abbrev pub HasRun : Ran → List Statement → Ran → Type 0
+HasRun old statements new = (n : ℕ) × (new ≡ (ran_each old (take n statements)).1)
+
 abbrev pub HasRunFront : Ran → Migrate → Ran → Type 0
-HasRunFront old m new = (n : ℕ) × (new ≡ (ran_each old (take n (there_and_back old.database m))).1)
+HasRunFront old m new = HasRun old (there_and_back old.database m) new

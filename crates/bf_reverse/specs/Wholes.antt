@@ -1,5 +1,5 @@
 -- Old tables that a MIGRATE leaves whole: all that they had stands in its targets.
-use Rattle.std.specs.Prelude.{ℕ, Bool, true, false, ◌&&◌, ◌||◌, List, [], ◌∷◌, map, flat_map, filter, length, find, not, Option, Some, None, nat_eq, ◌==◌, if◌then◌else◌}
+use Rattle.std.specs.Prelude.{ℕ, Bool, true, false, ◌&&◌, ◌||◌, List, [], ◌∷◌, map, flat_map, filter, length, find, not, Option, Some, None, nat_eq, nat_lt, ◌==◌, if◌then◌else◌}
 use Rattle.std.specs.List.{list_all, range_with_len}
 use Rattle.bf_base.specs.declared.table.Table.{Table}
 use Rattle.bf_base.specs.Lists.{same_name, has}
@@ -31,6 +31,10 @@ refs_of copies place = flat_map (refs_in place) copies
 abbrev pub stands_once : Table → List Copied → ℕ → Bool
 stands_once table copies place =
     if has nat_eq table.key place then list_all (λ copied. length (refs_in place copied) == 1) copies else length (refs_of copies place) == 1
+
+-- whether a column stands in each of two targets
+abbrev pub stand_in_both : Copied → Copied → ℕ → Bool
+stand_in_both first second place = nat_lt 0 (length (refs_in place first)) && nat_lt 0 (length (refs_in place second))
 
 abbrev pub places_in : Table → List ℕ
 places_in table = range_with_len 0 (length table.columns)

@@ -1,8 +1,11 @@
 //! The statements that take a MIGRATE back.
 
-ghost use Rattle.std.specs.Prelude.{◌≡◌, ◌<◌, IfOk, IsTrue, length};
-ghost use Rattle.bf_reverse.specs.Inverses.{arm_back, first_ref, index_back, item_back, join_back, pair_back, target_back};
-ghost use Rattle.bf_reverse.specs.Wholes.{keep_all, refs_in, refs_of};
+ghost use Rattle.std.specs.List.{list_all};
+ghost use Rattle.std.specs.Option.{option_copied, option_map};
+ghost use Rattle.std.specs.Prelude.{◌≡◌, ◌<◌, ◌==◌, IfOk, IsTrue, find, length, map};
+ghost use Rattle.bf_sql.specs.Database.{is_within};
+ghost use Rattle.bf_reverse.specs.Inverses.{arm_back, first_ref, index_on, item_back, join_back, names_at, pair_back, target_back};
+ghost use Rattle.bf_reverse.specs.Wholes.{keep_all, refs_in, refs_of, stand_in_both};
 
 use crate::copied::Copied;
 use bf_base::{Column, Memory, Name, Sequence, Table};
@@ -10,7 +13,9 @@ use bf_tree::{Arm, IndexRule, Item, Join, RawExpr, RawNode, Ref, Statement, Targ
 use std::alloc::Global;
 
 /// The name of the first column of a target that copies the column at a place.
-fn name_in(copied: &Copied, place: u8) -> Option<&Name> {
+fn name_in(copied: &Copied, place: u8) -> Option<&Name>
+    ensures { option_copied result ≡ option_map (λ c. c.0) (find (λ c. c.1 == place) copied.now.columns) }
+{
     copied
         .columns
         .as_slice()
@@ -74,7 +79,10 @@ fn pairs_back(
     key: &[u8],
     first: &Copied,
     second: &Copied,
-) -> Result<Vec<(Ref, Ref)>, Memory> {
+) -> Result<Vec<(Ref, Ref)>, Memory>
+    requires { IsTrue (list_all (λ place. stand_in_both first.now second.now place) key.now) }
+    ensures { IfOk result (λ pairs. pairs.items ≡ map (pair_back first.now second.now) key.now) }
+{
     let mut pairs = Vec::with_capacity(alloc, key.len())?;
     for place in key {
         pairs.push((
@@ -127,6 +135,19 @@ pub(crate) fn target_back(
     })
 }
 
+/// The names of the columns at some places.
+fn names_at(alloc: Global, table: &Table, places: &[u8]) -> Result<Vec<Name>, Memory>
+    requires { IsTrue (is_within table.now places.now) }
+    ensures { IfOk result (λ names. names.items ≡ names_at table.now places.now) }
+{
+    let columns = table.columns.as_slice();
+    let mut names = Vec::with_capacity(alloc, places.len())?;
+    for place in places {
+        names.push(columns[usize::from(*place)].name.copy(alloc)?)?;
+    }
+    Ok(names)
+}
+
 /// The statement that creates an index on an old table again.
 ///
 /// # Errors
@@ -135,12 +156,11 @@ pub(crate) fn index_back(
     alloc: Global,
     table: &Table,
     rule: &IndexRule,
-) -> Result<Statement, Memory> {
-    let columns = table.columns.as_slice();
-    let mut names = Vec::with_capacity(alloc, rule.columns.len())?;
-    for place in rule.columns.as_slice() {
-        names.push(columns[usize::from(*place)].name.copy(alloc)?)?;
-    }
+) -> Result<Statement, Memory>
+    requires { IsTrue (is_within table.now rule.now.columns) }
+    ensures { IfOk result (λ statement. statement ≡ index_on table.now rule.now) }
+{
+    let names = names_at(alloc, table, rule.columns.as_slice())?;
     Ok(Statement::CreateIndex {
         name: rule.name.copy(alloc)?,
         table: rule.table.copy(alloc)?,

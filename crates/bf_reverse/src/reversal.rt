@@ -1,9 +1,12 @@
 //! The way back from a MIGRATE in a catalog.
 
-ghost use Rattle.std.specs.Prelude.{◌≡◌, IfOk};
+ghost use Rattle.std.specs.List.{list_all};
+ghost use Rattle.std.specs.Prelude.{◌≡◌, ◌++◌, IfOk, IsTrue, is_some};
 ghost use Rattle.bf_tree.specs.Limits.{HasNarrowTables, IsNarrowMigrate};
+ghost use Rattle.bf_tree.specs.Places.{table_named};
 ghost use Rattle.bf_sql.specs.Bound.{without_rows};
 ghost use Rattle.bf_sql.specs.Database.{IsDatabase};
+ghost use Rattle.bf_reverse.specs.Planned.{indexes_on, reversal_planned, targets_back};
 ghost use Rattle.bf_reverse.specs.Reversals.{reversal_of};
 
 use crate::inverse::{index_back, target_back};
@@ -26,10 +29,15 @@ pub enum Reversal {
 }
 
 /// The targets of an inverse, or the first source that is not whole.
-type TargetsBack = Result<Vec<Target>, Name>;
+type TargetsBack = Result<Sequence<Target>, Name>;
 
 /// A target for each source, or the first source that is not whole.
-fn targets_back(alloc: Global, plan: &Plan, catalog: &Catalog) -> Result<TargetsBack, Memory> {
+fn targets_back(alloc: Global, plan: &Plan, catalog: &Catalog) -> Result<TargetsBack, Memory>
+    requires sources { IsTrue (list_all (λ s. is_some (table_named catalog.now s)) plan.now.sources) }
+    requires narrow { HasNarrowTables catalog.now }
+    ensures { IfOk result (λ targets. targets
+        ≡ targets_back (without_rows catalog.now) plan.now plan.now.sources) }
+{
     let sources = plan.sources.as_slice();
     let mut targets = Vec::with_capacity(alloc, sources.len())?;
     for source in sources {
@@ -42,7 +50,7 @@ fn targets_back(alloc: Global, plan: &Plan, catalog: &Catalog) -> Result<Targets
             _ => return Ok(Err(source.copy(alloc)?)),
         }
     }
-    Ok(Ok(targets))
+    Ok(Ok(Sequence::of(targets)))
 }
 
 /// What creates the indexes of some tables again, behind other statements.
@@ -51,7 +59,11 @@ fn with_indexes(
     catalog: &Catalog,
     sources: &[Name],
     mut statements: Vec<Statement>,
-) -> Result<Vec<Statement>, Memory> {
+) -> Result<Vec<Statement>, Memory>
+    requires { IsDatabase (without_rows catalog.now) }
+    ensures { IfOk result (λ all. all.items
+        ≡ statements.items ++ indexes_on (without_rows catalog.now) sources.now) }
+{
     for rule in catalog.indexes() {
         if sources.contains(&rule.table) {
             // Each index of a catalog is on one of its tables.
@@ -70,13 +82,16 @@ pub(crate) fn unless_lossy(
     alloc: Global,
     plan: &Plan,
     catalog: &Catalog,
-) -> Result<Reversal, Memory> {
+) -> Result<Reversal, Memory>
+    requires database { IsDatabase (without_rows catalog.now) }
+    requires sources { IsTrue (list_all (λ s. is_some (table_named catalog.now s)) plan.now.sources) }
+    requires narrow { HasNarrowTables catalog.now }
+    ensures { IfOk result (λ reversal. reversal
+        ≡ reversal_planned (without_rows catalog.now) plan.now) }
+{
     match targets_back(alloc, plan, catalog)? {
         Ok(targets) => {
-            let migrate = Migrate {
-                targets: Sequence::of(targets),
-            };
-            let first = vec![in alloc; Statement::Migrate(migrate)]?;
+            let first = vec![in alloc; Statement::Migrate(Migrate { targets })]?;
             let statements = with_indexes(alloc, catalog, plan.sources.as_slice(), first)?;
             Ok(Reversal::Inverse(Sequence::of(statements)))
         }

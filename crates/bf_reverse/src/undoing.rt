@@ -1,9 +1,12 @@
 //! A MIGRATE that is run and taken back.
 
-ghost use Rattle.std.specs.Prelude.{◌≡◌, IfOk, OnErr, None, Some};
-ghost use Rattle.bf_tree.specs.Limits.{HasNarrowTables, IsNarrowMigrate};
-ghost use Rattle.bf_eager.specs.Beginnings.{first_against};
-ghost use Rattle.bf_reverse.specs.Undone.{HasCreatedIndexes, HasRunFront, IsUndoAnswer};
+ghost use Rattle.std.specs.List.{AllByRecursion};
+ghost use Rattle.std.specs.Prelude.{◌≡◌, ◌++◌, [], ◌∷◌, IfOk, OnErr, OnOk, true};
+ghost use Rattle.bf_tree.specs.Limits.{IsNarrowMigrate};
+ghost use Rattle.bf_sql.specs.RowObjections.{first_oversize};
+ghost use Rattle.bf_eager.specs.Eager.{IsWholeGroup};
+ghost use Rattle.bf_reverse.specs.Reversals.{reversal_on};
+ghost use Rattle.bf_reverse.specs.Undone.{HasRun, ran_each, HasArms, HasCreatedIndexes, HasRunFront, IsUndoAnswer};
 
 use crate::reversal::{Reversal, unless_lossy};
 use bf_base::{MOST_ROWS, Memory, Name};
@@ -20,7 +23,9 @@ fn oversize(
     alloc: Global,
     database: &Eager,
     sources: &[Name],
-) -> Result<Option<Refusal>, Memory> {
+) -> Result<Option<Refusal>, Memory>
+    ensures { IfOk result (λ refusal. refusal ≡ first_oversize database.now.database sources.now) }
+{
     for source in sources {
         match database.rows(source) {
             Some(rows) if rows > MOST_ROWS => {
@@ -40,7 +45,10 @@ pub(crate) fn reverse_on(
     alloc: Global,
     database: &Eager,
     migrate: &Migrate,
-) -> Result<Reversal, Memory> {
+) -> Result<Reversal, Memory>
+    requires { IsNarrowMigrate migrate.now }
+    ensures { IfOk result (λ reversal. reversal ≡ reversal_on database.now.database migrate.now) }
+{
     match plan(alloc, migrate, database.catalog())? {
         Ok(plan) => match oversize(alloc, database, plan.sources.as_slice())? {
             Some(refusal) => Ok(Reversal::Refused(refusal)),
@@ -58,7 +66,12 @@ fn run_each(
     database: &mut Eager,
     statements: &[Statement],
     replies: &mut Vec<Reply>,
-) -> Result<(), Memory> {
+) -> Result<(), Memory>
+    requires { AllByRecursion (λ s. IsWholeGroup true (s ∷ [])) statements.now }
+    ensures ok { OnOk result ((replies.new.items, database.new)
+        ≡ (replies.old.items ++ (ran_each database.old statements.now).0, (ran_each database.old statements.now).1)) }
+    ensures err { OnErr result (HasRun database.old statements.now database.new) }
+{
     for index in 0..statements.len() {
         let mut more = database.run_entry(&statements[index..index + 1], true)?;
         replies.append(&mut more)?;
@@ -80,6 +93,7 @@ pub fn undo(
     migrate: &Migrate,
 ) -> Result<Option<Vec<Reply>>, Memory>
     requires limits { IsNarrowMigrate migrate.now }
+    requires arms { HasArms migrate.now }
     requires indexes { HasCreatedIndexes database.old.database }
     ensures answer { IfOk result
         (λ replies. IsUndoAnswer database.old migrate.now replies database.new) }

@@ -1,14 +1,21 @@
 //! Old tables that a MIGRATE leaves whole.
 
-ghost use Rattle.std.specs.Prelude.{◌≡◌, ◌==◌, IfOk, length};
+ghost use Rattle.std.specs.Prelude.{◌≡◌, ◌≤◌, IfOk, length, option_map};
+ghost use Rattle.bf_base.specs.Limits.{most_columns};
+ghost use Rattle.bf_base.specs.Lists.{has, same_name};
+ghost use Rattle.bf_sql.specs.migrations.Targets.{arm_sources};
+ghost use Rattle.bf_reverse.specs.Planned.{copies_planned};
+ghost use Rattle.bf_reverse.specs.Wholes.{keep_all, names_source, refs_in, refs_of, stands_once};
 
 use crate::copied::{Copied, copied_of};
-use bf_base::{Memory, Name, Table};
+use bf_base::{Memory, Name, Sequence, Table};
 use bf_tree::{Arm, Plan, Target};
 use std::alloc::Global;
 
 /// Whether an arm names a table in FROM or JOIN.
-fn arm_names(arm: &Arm, source: &Name) -> bool {
+fn arm_names(arm: &Arm, source: &Name) -> bool
+    ensures { result ≡ has same_name (arm_sources arm.now) source.now }
+{
     let joins = match &arm.join {
         Some(join) => join.table == *source,
         None => false,
@@ -17,7 +24,9 @@ fn arm_names(arm: &Arm, source: &Name) -> bool {
 }
 
 /// Whether a target names a table in FROM or JOIN.
-fn target_names(target: &Target, source: &Name) -> bool {
+fn target_names(target: &Target, source: &Name) -> bool
+    ensures { result ≡ names_source source.now target.now }
+{
     target
         .arms
         .as_slice()
@@ -25,8 +34,10 @@ fn target_names(target: &Target, source: &Name) -> bool {
         .any(|arm| arm_names(arm, source))
 }
 
-/// How often the column at a place is copied.
-fn count_in(copied: &Copied, place: u8) -> usize {
+/// How often a target copies the column at a place.
+fn count_in(copied: &Copied, place: u8) -> usize
+    ensures { result ≡ length (refs_in place copied.now) }
+{
     copied
         .columns
         .as_slice()
@@ -35,17 +46,21 @@ fn count_in(copied: &Copied, place: u8) -> usize {
         .count()
 }
 
-/// How often the column at a place is copied in all targets.
-fn count_of(copies: &[Copied], place: u8) -> usize {
-    let mut count = 0;
-    for copied in copies {
-        count += count_in(copied, place);
-    }
-    count
+/// How often targets copy the column at a place.
+fn count_of(copies: &[Copied], place: u8) -> usize
+    ensures { result ≡ length (refs_of copies.now place) }
+{
+    copies
+        .iter()
+        .flat_map(|copied| copied.columns.as_slice())
+        .filter(|column| column.1 == place)
+        .count()
 }
 
 /// Whether a key column stands once in each target, or another one once in all of them.
-fn stands_once(table: &Table, copies: &[Copied], place: u8) -> bool {
+fn stands_once(table: &Table, copies: &[Copied], place: u8) -> bool
+    ensures { result ≡ stands_once table.now copies.now place }
+{
     if table.key.as_slice().contains(&place) {
         copies.iter().all(|copied| count_in(copied, place) == 1)
     } else {
@@ -54,13 +69,17 @@ fn stands_once(table: &Table, copies: &[Copied], place: u8) -> bool {
 }
 
 /// Whether one target or two keep each column of a table.
-pub(crate) fn keep_all(table: &Table, copies: &[Copied]) -> bool {
+pub(crate) fn keep_all(table: &Table, copies: &[Copied]) -> bool
+    requires { length table.now.columns ≤ most_columns }
+    ensures { result ≡ keep_all table.now copies.now }
+{
     let count = table.columns.len();
     (copies.len() == 1 || copies.len() == 2)
         && (0..count).all(|place| stands_once(table, copies, place as u8))
 }
 
-/// What the targets that name a table copy. `None` where one of them does not copy columns of one table.
+/// What the targets of a plan that name a table copy. `None` where one of them does not copy columns of one table. It
+/// costs the arms of the targets.
 ///
 /// # Errors
 /// Where memory runs out.
@@ -68,17 +87,18 @@ pub(crate) fn copies_of(
     alloc: Global,
     plan: &Plan,
     source: &Name,
-) -> Result<Option<Vec<Copied>>, Memory> {
+) -> Result<Option<Sequence<Copied>>, Memory>
+    ensures { IfOk result (λ copies. copies ≡ copies_planned plan.now source.now) }
+{
     let targets = plan.migrate.targets.as_slice();
     let mut copies = Vec::new(alloc);
     for (target, arms) in targets.iter().zip(plan.arms.as_slice()) {
-        if !target_names(target, source) {
-            continue;
-        }
-        match copied_of(alloc, target, arms.as_slice())? {
-            Some(copied) => copies.push(copied)?,
-            None => return Ok(None),
+        if target_names(target, source) {
+            match copied_of(alloc, target, arms.as_slice())? {
+                Some(copied) => copies.push(copied)?,
+                None => return Ok(None),
+            }
         }
     }
-    Ok(Some(copies))
+    Ok(Some(Sequence::of(copies)))
 }

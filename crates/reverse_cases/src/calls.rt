@@ -2,7 +2,8 @@
 //!
 //! Lines in front of a script tell of another call: `$ words WORDS` has these words in the place of `reverse`, of which `''`
 //! is the empty one; `$ fail read N` and `$ fail write N` let the N-th read or write fail; and `$ byte N COUNT` puts as
-//! many bytes with this number behind the script.
+//! many bytes with this number behind the script. In the script a line `% FIRST LAST TEXT` stands for as many lines as
+//! there are numbers from FIRST to LAST, each the text with the number in the place of its `#`.
 
 use crate::narrow::Narrow;
 use crate::regained::expect_regained;
@@ -66,6 +67,42 @@ fn read_line<'a>(
     Ok(())
 }
 
+/// Adds a text with a number in the place of its `#`, as a line.
+fn add_line(number: u32, text: &str, script: &mut String) -> anyhow::Result<()> {
+    match text.split_once("#") {
+        Some((front, behind)) => writeln!(script, "{front}{number}{behind}")?,
+        None => writeln!(script, "{text}")?,
+    }
+    Ok(())
+}
+
+/// Adds the lines for which a line stands that has two numbers and a text.
+fn repeat(rule: &str, script: &mut String) -> anyhow::Result<()> {
+    let (first, rest) = rule.split_once(" ").context("a line % without numbers")?;
+    let (last, text) = first_word(rest);
+    for number in first.parse::<u32>()?..=last.parse::<u32>()? {
+        add_line(number, text, script)?;
+    }
+    Ok(())
+}
+
+/// The script that lines write, with bytes behind it.
+fn script_of(alloc: Global, lines: &str, behind: &mut Vec<u8>) -> anyhow::Result<Vec<u8>> {
+    let mut script = String::new(alloc);
+    let mut between = "";
+    for line in lines.split("\n") {
+        script.push_str(between)?;
+        between = "\n";
+        match line.strip_prefix("% ") {
+            Some(rule) => repeat(rule, &mut script)?,
+            None => script.push_str(line)?,
+        }
+    }
+    let mut bytes = script.into_bytes();
+    bytes.append(behind)?;
+    Ok(bytes)
+}
+
 /// The call that a text tells.
 fn call_of(alloc: Global, text: &str) -> anyhow::Result<Call<'_>> {
     let mut call = Call {
@@ -81,8 +118,7 @@ fn call_of(alloc: Global, text: &str) -> anyhow::Result<Call<'_>> {
         read_line(alloc, line, &mut call, &mut behind)?;
         rest = more;
     }
-    call.script.extend_from_slice(rest.as_bytes())?;
-    call.script.append(&mut behind)?;
+    call.script = script_of(alloc, rest, &mut behind)?;
     Ok(call)
 }
 
