@@ -1,1 +1,7 @@
-
+pub mod Cells
+pub mod Joined
+pub mod Meant
+pub mod Pairing
+pub mod Regained
+pub mod Renewed
+pub mod Restoring

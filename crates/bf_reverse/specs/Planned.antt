@@ -1,6 +1,6 @@
 -- The way back from a MIGRATE by its plan, which has places for the names of its arms.
 use Rattle.std.specs.Prelude.{ℕ, List, [], ◌∷◌, filter, map, zip, Option, Some, None, option_map, unwrap_or, Result, Ok, Err, if◌then◌else◌}
-use Rattle.std.specs.Result.{result_map}
+use Rattle.std.specs.Result.{result_map_both}
 use Rattle.bf_base.specs.Lists.{has, same_name}
 use Rattle.bf_tree.specs.Trees.{column}
 use Rattle.bf_tree.specs.declared.migration.Arm.{Arm}
@@ -55,7 +55,7 @@ abbrev pub targets_back : Database → Plan → List (List ℕ) → Result (List
 targets_back db plan [] = Ok []
 targets_back db plan (source ∷ sources) =
     if are_whole (table_at db source) (copies_planned plan source)
-    then result_map (λ targets. target_back (table_at db source) (unwrap_or (copies_planned plan source) []) ∷ targets) (targets_back db plan sources)
+    then result_map_both (λ targets. target_back (table_at db source) (unwrap_or (copies_planned plan source) []) ∷ targets) (λ lossy. lossy) (targets_back db plan sources)
     else Err source
 
 abbrev pub indexes_on : Database → List (List ℕ) → List Statement
