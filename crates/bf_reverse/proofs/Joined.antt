@@ -90,73 +90,73 @@ InBoth first second place = (0 < length (refs_in place first)) × (0 < length (r
 module _ (admit : ℕ → Admit) (itself : (x : Own) → same_own x x ≡ true) (symmetric : (x y : Own) → same_own x y ≡ same_own y x)
     (first second : Copied) (apart : are_apart same_own (all_own (first ∷ second ∷ [])) ≡ true)
   where
-  abbrev owns : List Own
-  owns = all_own (first ∷ second ∷ [])
+    abbrev owns : List Own
+    owns = all_own (first ∷ second ∷ [])
 
-  abbrev pub scope_of_both : Scope
-  scope_of_both = map (in_scope admit) owns
+    abbrev pub scope_of_both : Scope
+    scope_of_both = map (in_scope admit) owns
 
-  abbrev pub beside : List Value → List Value → List Value
-  beside x y = copied_row first.columns x ++ copied_row second.columns y
+    abbrev pub beside : List Value → List Value → List Value
+    beside x y = copied_row first.columns x ++ copied_row second.columns y
 
-  width_first : length (own_of first) ≡ length first.columns
-  width_first = length-map {B = Own} first.columns (λ (c : Column_copied). (first.name, c))
+    width_first : length (own_of first) ≡ length first.columns
+    width_first = length-map {B = Own} first.columns (λ (c : Column_copied). (first.name, c))
 
-  -- the first target's copy of a column is read of the first row
-  pub read_first : (place : ℕ) (x y : List Value) → 0 < length (refs_in place first) → read_in scope_of_both (beside x y) (first_ref (refs_in place first)) ≡ cell x place
-  read_first place x y some =
-      let s = own_serves first place some in
-      let low : s.at < length (own_of first) = omega (arith, s.within, width_first) in
-      let here : get_or owns s.at no_own ≡ (first.name, get_or first.columns s.at ([], 0)) = get_or_append_left (own_of first) (own_of second ++ []) no_own s.at low ∙ own_at first s.at s.within in
-      let in_range : s.at < length owns = omega (arith, low, length-append (own_of first) (own_of second ++ [])) in
-      let meant : places_of scope_of_both (first_ref (refs_in place first)) ≡ s.at ∷ [] =
-      ap (places_of scope_of_both) (s.is ∙ ap ref_to (sym here)) ∙ means_own admit itself symmetric owns s.at no_own in_range apart in
-      let long : s.at < length (copied_row first.columns x) = omega (arith, s.within, length-map first.columns (λ (c : Column_copied). cell x c.1)) in
-      ap (λ (places : List ℕ). cell (beside x y) (get_or places 0 0)) meant
-      ∙ cell-left (copied_row first.columns x) (copied_row second.columns y) s.at long
-      ∙ cell-copied first.columns x s.at ([], 0) s.within
-      ∙ ap (cell x) s.copies_it
+    -- the first target's copy of a column is read of the first row
+    pub read_first : (place : ℕ) (x y : List Value) → 0 < length (refs_in place first) → read_in scope_of_both (beside x y) (first_ref (refs_in place first)) ≡ cell x place
+    read_first place x y some =
+        let s = own_serves first place some in
+        let low : s.at < length (own_of first) = omega (arith, s.within, width_first) in
+        let here : get_or owns s.at no_own ≡ (first.name, get_or first.columns s.at ([], 0)) = get_or_append_left (own_of first) (own_of second ++ []) no_own s.at low ∙ own_at first s.at s.within in
+        let in_range : s.at < length owns = omega (arith, low, length-append (own_of first) (own_of second ++ [])) in
+        let meant : places_of scope_of_both (first_ref (refs_in place first)) ≡ s.at ∷ [] =
+        ap (places_of scope_of_both) (s.is ∙ ap ref_to (sym here)) ∙ means_own admit itself symmetric owns s.at no_own in_range apart in
+        let long : s.at < length (copied_row first.columns x) = omega (arith, s.within, length-map first.columns (λ (c : Column_copied). cell x c.1)) in
+        ap (λ (places : List ℕ). cell (beside x y) (get_or places 0 0)) meant
+        ∙ cell-left (copied_row first.columns x) (copied_row second.columns y) s.at long
+        ∙ cell-copied first.columns x s.at ([], 0) s.within
+        ∙ ap (cell x) s.copies_it
 
-  -- where the second target's copy stands among the columns of both
-  pub meant_second : (place : ℕ) (s : Own_serves second place) → places_of scope_of_both (first_ref (refs_in place second)) ≡ (length (own_of first) + s.at) ∷ []
-  meant_second place s =
-      let low : s.at < length (own_of second) = omega (arith, s.within, length-map {B = Own} second.columns (λ (c : Column_copied). (second.name, c))) in
-      let here : get_or owns (length (own_of first) + s.at) no_own ≡ (second.name, get_or second.columns s.at ([], 0)) =
-      get_or-append-add (own_of first) (own_of second ++ []) s.at no_own ∙ get_or_append_left (own_of second) [] no_own s.at low ∙ own_at second s.at s.within in
-      let in_range : length (own_of first) + s.at < length owns = omega (arith, low, length-append (own_of first) (own_of second ++ []), length-append (own_of second) []) in
-      ap (places_of scope_of_both) (s.is ∙ ap ref_to (sym here)) ∙ means_own admit itself symmetric owns (length (own_of first) + s.at) no_own in_range apart
+    -- where the second target's copy stands among the columns of both
+    pub meant_second : (place : ℕ) (s : Own_serves second place) → places_of scope_of_both (first_ref (refs_in place second)) ≡ (length (own_of first) + s.at) ∷ []
+    meant_second place s =
+        let low : s.at < length (own_of second) = omega (arith, s.within, length-map {B = Own} second.columns (λ (c : Column_copied). (second.name, c))) in
+        let here : get_or owns (length (own_of first) + s.at) no_own ≡ (second.name, get_or second.columns s.at ([], 0)) =
+        get_or-append-add (own_of first) (own_of second ++ []) s.at no_own ∙ get_or_append_left (own_of second) [] no_own s.at low ∙ own_at second s.at s.within in
+        let in_range : length (own_of first) + s.at < length owns = omega (arith, low, length-append (own_of first) (own_of second ++ []), length-append (own_of second) []) in
+        ap (places_of scope_of_both) (s.is ∙ ap ref_to (sym here)) ∙ means_own admit itself symmetric owns (length (own_of first) + s.at) no_own in_range apart
 
-  -- and the second one's of the second row
-  pub read_second : (place : ℕ) (x y : List Value) → 0 < length (refs_in place second) → read_in scope_of_both (beside x y) (first_ref (refs_in place second)) ≡ cell y place
-  read_second place x y some =
-      let s = own_serves second place some in
-      let width : length (own_of first) + s.at ≡ length (copied_row first.columns x) + s.at = omega (arith, width_first, length-map first.columns (λ (c : Column_copied). cell x c.1)) in
-      ap (λ (places : List ℕ). cell (beside x y) (get_or places 0 0)) (meant_second place s)
-      ∙ ap (cell (beside x y)) width
-      ∙ cell-right (copied_row first.columns x) (copied_row second.columns y) s.at
-      ∙ cell-copied second.columns y s.at ([], 0) s.within
-      ∙ ap (cell y) s.copies_it
+    -- and the second one's of the second row
+    pub read_second : (place : ℕ) (x y : List Value) → 0 < length (refs_in place second) → read_in scope_of_both (beside x y) (first_ref (refs_in place second)) ≡ cell y place
+    read_second place x y some =
+        let s = own_serves second place some in
+        let width : length (own_of first) + s.at ≡ length (copied_row first.columns x) + s.at = omega (arith, width_first, length-map first.columns (λ (c : Column_copied). cell x c.1)) in
+        ap (λ (places : List ℕ). cell (beside x y) (get_or places 0 0)) (meant_second place s)
+        ∙ ap (cell (beside x y)) width
+        ∙ cell-right (copied_row first.columns x) (copied_row second.columns y) s.at
+        ∙ cell-copied second.columns y s.at ([], 0) s.within
+        ∙ ap (cell y) s.copies_it
 
-  -- the equalities of ON, of the copies of some columns
-  abbrev pub are_equal : List ℕ → List Value → Bool
-  are_equal key row = list_all (λ (pair : Ref × Ref). is_eq (value_cmp (read_in scope_of_both row pair.0) (read_in scope_of_both row pair.1))) (map (pair_back first second) key)
+    -- the equalities of ON, of the copies of some columns
+    abbrev pub are_equal : List ℕ → List Value → Bool
+    are_equal key row = list_all (λ (pair : Ref × Ref). is_eq (value_cmp (read_in scope_of_both row pair.0) (read_in scope_of_both row pair.1))) (map (pair_back first second) key)
 
-  tells : (key : List ℕ) → AllByRecursion (InBoth first second) key → (x y : List Value) → are_equal key (beside x y) ≡ same_key (cells key x) (cells key y)
-  tells key all x y =
-      list_all-map (λ (pair : Ref × Ref). is_eq (value_cmp (read_in scope_of_both (beside x y) pair.0) (read_in scope_of_both (beside x y) pair.1))) (pair_back first second) key
-      ∙ all_same (λ k. is_eq (value_cmp (read_in scope_of_both (beside x y) (first_ref (refs_in k first))) (read_in scope_of_both (beside x y) (first_ref (refs_in k second)))))
-      (λ k. is_eq (value_cmp (cell x k) (cell y k))) (InBoth first second)
-      (λ k both. ap₂ (λ (a b : Value). is_eq (value_cmp a b)) (read_first k x y both.0) (read_second k x y both.1)) key all
-      ∙ sym (keys_tie key x y)
+    tells : (key : List ℕ) → AllByRecursion (InBoth first second) key → (x y : List Value) → are_equal key (beside x y) ≡ same_key (cells key x) (cells key y)
+    tells key all x y =
+        list_all-map (λ (pair : Ref × Ref). is_eq (value_cmp (read_in scope_of_both (beside x y) pair.0) (read_in scope_of_both (beside x y) pair.1))) (pair_back first second) key
+        ∙ all_same (λ k. is_eq (value_cmp (read_in scope_of_both (beside x y) (first_ref (refs_in k first))) (read_in scope_of_both (beside x y) (first_ref (refs_in k second)))))
+        (λ k. is_eq (value_cmp (cell x k) (cell y k))) (InBoth first second)
+        (λ k both. ap₂ (λ (a b : Value). is_eq (value_cmp a b)) (read_first k x y both.0) (read_second k x y both.1)) key all
+        ∙ sym (keys_tie key x y)
 
-  -- JOINED: of the pairs of copies of old rows those are left that copy one row
-  pub joined_back : (table : Table) (rows : List (List Value)) → AllByRecursion (InBoth first second) table.key → rises key_cmp (map (key_of table) rows) ≡ true
-      → filter (are_equal table.key) (flat_map (λ (r : List Value). map (λ (s : List Value). r ++ s) (map (copied_row second.columns) rows)) (map (copied_row first.columns) rows))
-      ≡ map (λ (row : List Value). copied_row (first.columns ++ second.columns) row) rows
-  joined_back table rows all keyed =
-      ap (filter (are_equal table.key))
-      (flat_map-map (λ (r : List Value). map (λ (s : List Value). r ++ s) (map (copied_row second.columns) rows)) (copied_row first.columns) rows
-      ∙ flat_map_same (λ x. map (λ (s : List Value). copied_row first.columns x ++ s) (map (copied_row second.columns) rows)) (λ x. map (beside x) rows)
-      (λ x. map-map (λ (s : List Value). copied_row first.columns x ++ s) (copied_row second.columns) rows) rows)
-      ∙ paired_with_itself key_cmp_total (key_of table) beside (are_equal table.key) (tells table.key all) rows keyed
-      ∙ map_same (λ x. beside x x) (copied_row (first.columns ++ second.columns)) (λ x. sym (map-append (λ (c : Column_copied). cell x c.1) first.columns second.columns)) rows
+    -- JOINED: of the pairs of copies of old rows those are left that copy one row
+    pub joined_back : (table : Table) (rows : List (List Value)) → AllByRecursion (InBoth first second) table.key → rises key_cmp (map (key_of table) rows) ≡ true
+        → filter (are_equal table.key) (flat_map (λ (r : List Value). map (λ (s : List Value). r ++ s) (map (copied_row second.columns) rows)) (map (copied_row first.columns) rows))
+        ≡ map (λ (row : List Value). copied_row (first.columns ++ second.columns) row) rows
+    joined_back table rows all keyed =
+        ap (filter (are_equal table.key))
+        (flat_map-map (λ (r : List Value). map (λ (s : List Value). r ++ s) (map (copied_row second.columns) rows)) (copied_row first.columns) rows
+        ∙ flat_map_same (λ x. map (λ (s : List Value). copied_row first.columns x ++ s) (map (copied_row second.columns) rows)) (λ x. map (beside x) rows)
+        (λ x. map-map (λ (s : List Value). copied_row first.columns x ++ s) (copied_row second.columns) rows) rows)
+        ∙ paired_with_itself key_cmp_total (key_of table) beside (are_equal table.key) (tells table.key all) rows keyed
+        ∙ map_same (λ x. beside x x) (copied_row (first.columns ++ second.columns)) (λ x. sym (map-append (λ (c : Column_copied). cell x c.1) first.columns second.columns)) rows

@@ -57,48 +57,48 @@ refs-own place (copied ∷ copies) =
 module _ (admit : ℕ → Admit) (itself : (x : Own) → same_own x x ≡ true) (symmetric : (x y : Own) → same_own x y ≡ same_own y x)
     (copies : List Copied) (apart : are_apart same_own (all_own copies) ≡ true)
   where
-  abbrev pub scope_back : Scope
-  scope_back = map (in_scope admit) (all_own copies)
+    abbrev pub scope_back : Scope
+    scope_back = map (in_scope admit) (all_own copies)
 
-  -- the column that serves for one of the old table
-  pub record Serves (place : ℕ) : Type 0 where
-    pub at : ℕ
-    pub within : at < length (all_own copies)
-    pub is : first_ref (refs_of copies place) ≡ ref_to (get_or (all_own copies) at no_own)
-    pub copies_it : (get_or (all_own copies) at no_own).1.1 ≡ place
-    pub meant : places_of scope_back (first_ref (refs_of copies place)) ≡ at ∷ []
+    -- the column that serves for one of the old table
+    pub record Serves (place : ℕ) : Type 0 where
+      pub at : ℕ
+      pub within : at < length (all_own copies)
+      pub is : first_ref (refs_of copies place) ≡ ref_to (get_or (all_own copies) at no_own)
+      pub copies_it : (get_or (all_own copies) at no_own).1.1 ≡ place
+      pub meant : places_of scope_back (first_ref (refs_of copies place)) ≡ at ∷ []
 
-  pub serves : (place : ℕ) → 0 < length (refs_of copies place) → Serves place
-  serves place some =
-      let found : 0 < length (filter (copies_at place) (all_own copies)) = omega (arith, some, ap (λ (rs : List Ref). length rs) (refs-own place copies), length-map (filter (copies_at place) (all_own copies)) ref_to) in
-      let first : IsFirst (copies_at place) (all_own copies) no_own = first_that (copies_at place) (all_own copies) no_own found in
-      let is : first_ref (refs_of copies place) ≡ ref_to (get_or (all_own copies) first.at no_own) =
-      ap first_ref (refs-own place copies) ∙ get_or-map ref_to (filter (copies_at place) (all_own copies)) 0 no_own (unqualified []) found ∙ ap ref_to first.first in
-      record {
-        at = first.at;
-        within = first.within;
-        is = is;
-        copies_it = eqb-true _ place first.passes;
-        meant = ap (places_of scope_back) is ∙ means_own admit itself symmetric (all_own copies) first.at no_own first.within apart;
-      }
+    pub serves : (place : ℕ) → 0 < length (refs_of copies place) → Serves place
+    serves place some =
+        let found : 0 < length (filter (copies_at place) (all_own copies)) = omega (arith, some, ap (λ (rs : List Ref). length rs) (refs-own place copies), length-map (filter (copies_at place) (all_own copies)) ref_to) in
+        let first : IsFirst (copies_at place) (all_own copies) no_own = first_that (copies_at place) (all_own copies) no_own found in
+        let is : first_ref (refs_of copies place) ≡ ref_to (get_or (all_own copies) first.at no_own) =
+        ap first_ref (refs-own place copies) ∙ get_or-map ref_to (filter (copies_at place) (all_own copies)) 0 no_own (unqualified []) found ∙ ap ref_to first.first in
+        record {
+          at = first.at;
+          within = first.within;
+          is = is;
+          copies_it = eqb-true _ place first.passes;
+          meant = ap (places_of scope_back) is ∙ means_own admit itself symmetric (all_own copies) first.at no_own first.within apart;
+        }
 
-  -- the columns alone
-  abbrev pub all_columns : List Column_copied
-  all_columns = map (λ (own : Own). own.1) (all_own copies)
+    -- the columns alone
+    abbrev pub all_columns : List Column_copied
+    all_columns = map (λ (own : Own). own.1) (all_own copies)
 
-  -- a row of the targets, side by side, has the old row's value where it serves
-  pub read_back : (place : ℕ) (row : List Value) → 0 < length (refs_of copies place) → read_in scope_back (copied_row all_columns row) (first_ref (refs_of copies place)) ≡ cell row place
-  read_back place row some =
-      let s = serves place some in
-      let long : s.at < length all_columns = omega (arith, s.within, length-map (all_own copies) (λ (own : Own). own.1)) in
-      ap (λ (places : List ℕ). cell (copied_row all_columns row) (get_or places 0 0)) s.meant
-      ∙ cell-copied all_columns row s.at ([], 0) long
-      ∙ ap (λ (c : Column_copied). cell row c.1) (get_or-map (λ (own : Own). own.1) (all_own copies) s.at no_own ([], 0) s.within)
-      ∙ ap (cell row) s.copies_it
+    -- a row of the targets, side by side, has the old row's value where it serves
+    pub read_back : (place : ℕ) (row : List Value) → 0 < length (refs_of copies place) → read_in scope_back (copied_row all_columns row) (first_ref (refs_of copies place)) ≡ cell row place
+    read_back place row some =
+        let s = serves place some in
+        let long : s.at < length all_columns = omega (arith, s.within, length-map (all_own copies) (λ (own : Own). own.1)) in
+        ap (λ (places : List ℕ). cell (copied_row all_columns row) (get_or places 0 0)) s.meant
+        ∙ cell-copied all_columns row s.at ([], 0) long
+        ∙ ap (λ (c : Column_copied). cell row c.1) (get_or-map (λ (own : Own). own.1) (all_own copies) s.at no_own ([], 0) s.within)
+        ∙ ap (cell row) s.copies_it
 
-  -- REGAINED: all columns of the old table read so are the old row
-  pub row_back : {X : Type 0} (columns : List X) (row : List Value) → length row ≡ length columns → ((place : ℕ) → place < length columns → 0 < length (refs_of copies place))
-      → map (λ (p : ℕ × X). read_in scope_back (copied_row all_columns row) (first_ref (refs_of copies p.0))) (enumerate_from 0 columns) ≡ row
-  row_back columns row long stands =
-      cells_again columns row 0 (λ k. read_in scope_back (copied_row all_columns row) (first_ref (refs_of copies k))) long
-      (λ k less. ap (λ n. read_in scope_back (copied_row all_columns row) (first_ref (refs_of copies n))) (zero-add k) ∙ read_back k row (stands k (omega (arith, less, long))))
+    -- REGAINED: all columns of the old table read so are the old row
+    pub row_back : {X : Type 0} (columns : List X) (row : List Value) → length row ≡ length columns → ((place : ℕ) → place < length columns → 0 < length (refs_of copies place))
+        → map (λ (p : ℕ × X). read_in scope_back (copied_row all_columns row) (first_ref (refs_of copies p.0))) (enumerate_from 0 columns) ≡ row
+    row_back columns row long stands =
+        cells_again columns row 0 (λ k. read_in scope_back (copied_row all_columns row) (first_ref (refs_of copies k))) long
+        (λ k less. ap (λ n. read_in scope_back (copied_row all_columns row) (first_ref (refs_of copies n))) (zero-add k) ∙ read_back k row (stands k (omega (arith, less, long))))

@@ -68,101 +68,101 @@ module _ (table : Table) (itself : (x : Own) → same_own x x ≡ true) (symmetr
     (stand : (place : ℕ) → place < length table.columns → 0 < length (refs_of (first ∷ more) place))
     (db : Database) (scope : arm_scope db (arm_back table (first ∷ more)) ≡ map (in_scope (admit_at table)) (all_own (first ∷ more)))
   where
-  abbrev copies : List Copied
-  copies = first ∷ more
+    abbrev copies : List Copied
+    copies = first ∷ more
 
-  abbrev arm : Arm
-  arm = arm_back table copies
+    abbrev arm : Arm
+    arm = arm_back table copies
 
-  serve : (place : ℕ) → place < length table.columns → Serves (admit_at table) itself symmetric copies apart place
-  serve place less = serves (admit_at table) itself symmetric copies apart place (stand place less)
+    serve : (place : ℕ) → place < length table.columns → Serves (admit_at table) itself symmetric copies apart place
+    serve place less = serves (admit_at table) itself symmetric copies apart place (stand place less)
 
-  -- what the column that serves admits is what the old column does
-  pub admitted_back : (place : ℕ) → place < length table.columns → admitted_by (arm_scope db arm) (first_ref (refs_of copies place)) ≡ admit_at table place
-  admitted_back place less =
-      let s = serve place less in
-      let sc : Scope = map (in_scope (admit_at table)) (all_own copies) in
-      let within : s.at < length sc = omega (arith, s.within, length-map (all_own copies) (in_scope (admit_at table))) in
-      ap (λ (sc : Scope). admitted_by sc (first_ref (refs_of copies place))) scope
-      ∙ ap (λ (places : List ℕ). get_or (map (λ (c : List ℕ × Column). c.1.admits) sc) (get_or places 0 0) admits.Int) s.meant
-      ∙ get_or-map (λ (c : List ℕ × Column). c.1.admits) sc s.at (in_scope (admit_at table) no_own) admits.Int within
-      ∙ ap (λ (c : List ℕ × Column). c.1.admits) (get_or-map (in_scope (admit_at table)) (all_own copies) s.at no_own (in_scope (admit_at table) no_own) s.within)
-      ∙ ap (admit_at table) s.copies_it
+    -- what the column that serves admits is what the old column does
+    pub admitted_back : (place : ℕ) → place < length table.columns → admitted_by (arm_scope db arm) (first_ref (refs_of copies place)) ≡ admit_at table place
+    admitted_back place less =
+        let s = serve place less in
+        let sc : Scope = map (in_scope (admit_at table)) (all_own copies) in
+        let within : s.at < length sc = omega (arith, s.within, length-map (all_own copies) (in_scope (admit_at table))) in
+        ap (λ (sc : Scope). admitted_by sc (first_ref (refs_of copies place))) scope
+        ∙ ap (λ (places : List ℕ). get_or (map (λ (c : List ℕ × Column). c.1.admits) sc) (get_or places 0 0) admits.Int) s.meant
+        ∙ get_or-map (λ (c : List ℕ × Column). c.1.admits) sc s.at (in_scope (admit_at table) no_own) admits.Int within
+        ∙ ap (λ (c : List ℕ × Column). c.1.admits) (get_or-map (in_scope (admit_at table)) (all_own copies) s.at no_own (in_scope (admit_at table) no_own) s.within)
+        ∙ ap (admit_at table) s.copies_it
 
-  admit_again : (k : ℕ) → k < length table.columns → column_admit db (target_back table copies) k ≡ (get_or table.columns k no_column).admits
-  admit_again k less =
-      let items : List Item = map (item_back copies) (enumerate_from 0 table.columns) in
-      let many : k < length (enumerate_from 0 table.columns) = omega (arith, less, length-enumerate_from 0 table.columns) in
-      let listed : k < length items = omega (arith, many, length-map (enumerate_from 0 table.columns) (item_back copies)) in
-      let long : k < length (map (item_admit (arm_scope db arm)) items) = omega (arith, listed, length-map items (item_admit (arm_scope db arm))) in
-      let default : Item = item_back copies (0, no_column) in
-      let numbered : get_or (enumerate_from 0 table.columns) k (0, no_column) ≡ (k, get_or table.columns k no_column) =
-      get_or-enumerate_from 0 table.columns k (0, no_column) less ∙ ap (λ (n : ℕ). let p : ℕ × Column = (n, get_or table.columns k no_column) in p) (zero-add k) in
-      ap (λ (o : Option Admit). unwrap_or o admits.Int) (picked either_admit (map (item_admit (arm_scope db arm)) items) k admits.Int long)
-      ∙ get_or-map (item_admit (arm_scope db arm)) items k default admits.Int listed
-      ∙ ap (item_admit (arm_scope db arm)) (get_or-map (item_back copies) (enumerate_from 0 table.columns) k (0, no_column) default many ∙ ap (item_back copies) numbered)
-      ∙ admitted_back k less
-      ∙ get_or-map (λ (c : Column). c.admits) table.columns k no_column admits.Int less
+    admit_again : (k : ℕ) → k < length table.columns → column_admit db (target_back table copies) k ≡ (get_or table.columns k no_column).admits
+    admit_again k less =
+        let items : List Item = map (item_back copies) (enumerate_from 0 table.columns) in
+        let many : k < length (enumerate_from 0 table.columns) = omega (arith, less, length-enumerate_from 0 table.columns) in
+        let listed : k < length items = omega (arith, many, length-map (enumerate_from 0 table.columns) (item_back copies)) in
+        let long : k < length (map (item_admit (arm_scope db arm)) items) = omega (arith, listed, length-map items (item_admit (arm_scope db arm))) in
+        let default : Item = item_back copies (0, no_column) in
+        let numbered : get_or (enumerate_from 0 table.columns) k (0, no_column) ≡ (k, get_or table.columns k no_column) =
+        get_or-enumerate_from 0 table.columns k (0, no_column) less ∙ ap (λ (n : ℕ). let p : ℕ × Column = (n, get_or table.columns k no_column) in p) (zero-add k) in
+        ap (λ (o : Option Admit). unwrap_or o admits.Int) (picked either_admit (map (item_admit (arm_scope db arm)) items) k admits.Int long)
+        ∙ get_or-map (item_admit (arm_scope db arm)) items k default admits.Int listed
+        ∙ ap (item_admit (arm_scope db arm)) (get_or-map (item_back copies) (enumerate_from 0 table.columns) k (0, no_column) default many ∙ ap (item_back copies) numbered)
+        ∙ admitted_back k less
+        ∙ get_or-map (λ (c : Column). c.admits) table.columns k no_column admits.Int less
 
-  abbrev placed_at : ℕ → ℕ
-  placed_at place = place_of (arm_scope db arm) (first_ref (refs_of copies place))
+    abbrev placed_at : ℕ → ℕ
+    placed_at place = place_of (arm_scope db arm) (first_ref (refs_of copies place))
 
-  placed_by : (place : ℕ) (less : place < length table.columns) → placed_at place ≡ (serve place less).at
-  placed_by place less =
-      ap (λ (sc : Scope). place_of sc (first_ref (refs_of copies place))) scope ∙ ap (λ (places : List ℕ). get_or places 0 0) (serve place less).meant
+    placed_by : (place : ℕ) (less : place < length table.columns) → placed_at place ≡ (serve place less).at
+    placed_by place less =
+        ap (λ (sc : Scope). place_of sc (first_ref (refs_of copies place))) scope ∙ ap (λ (places : List ℕ). get_or places 0 0) (serve place less).meant
 
-  -- two columns are not served by one
-  placed_apart : (j k : ℕ) → j < length table.columns → k < length table.columns → placed_at j ≡ placed_at k → j ≡ k
-  placed_apart j k less_j less_k same =
-      let at : (serve j less_j).at ≡ (serve k less_k).at = sym (placed_by j less_j) ∙ same ∙ placed_by k less_k in
-      sym (serve j less_j).copies_it ∙ ap (λ (i : ℕ). (get_or (all_own copies) i no_own).1.1) at ∙ (serve k less_k).copies_it
+    -- two columns are not served by one
+    placed_apart : (j k : ℕ) → j < length table.columns → k < length table.columns → placed_at j ≡ placed_at k → j ≡ k
+    placed_apart j k less_j less_k same =
+        let at : (serve j less_j).at ≡ (serve k less_k).at = sym (placed_by j less_j) ∙ same ∙ placed_by k less_k in
+        sym (serve j less_j).copies_it ∙ ap (λ (i : ℕ). (get_or (all_own copies) i no_own).1.1) at ∙ (serve k less_k).copies_it
 
-  item_places_back : item_places db arm ≡ map (λ (p : ℕ × Column). Some (placed_at p.0)) (enumerate_from 0 table.columns)
-  item_places_back = map-map (λ (i : Item). option_map (place_of (arm_scope db arm)) (plain_ref i)) (item_back copies) (enumerate_from 0 table.columns)
+    item_places_back : item_places db arm ≡ map (λ (p : ℕ × Column). Some (placed_at p.0)) (enumerate_from 0 table.columns)
+    item_places_back = map-map (λ (i : Item). option_map (place_of (arm_scope db arm)) (plain_ref i)) (item_back copies) (enumerate_from 0 table.columns)
 
-  -- the place at which an item is a column of the old table's key
-  position_back : (k : ℕ) → k < length table.columns → position (option_eq nat_eq (Some (placed_at k))) (item_places db arm) ≡ Some k
-  position_back k less =
-      ap (position (option_eq nat_eq (Some (placed_at k)))) item_places_back
-      ∙ position_from-zero (option_eq nat_eq (Some (placed_at k))) (map (λ (p : ℕ × Column). Some (placed_at p.0)) (enumerate_from 0 table.columns))
-      ∙ first_equal placed_at (placed_at k) k 0 table.columns less (ap placed_at (zero-add k)) (λ j less_j e. placed_apart j k less_j less (ap placed_at (sym (zero-add j)) ∙ e))
-      ∙ ap Some (zero-add k)
+    -- the place at which an item is a column of the old table's key
+    position_back : (k : ℕ) → k < length table.columns → position (option_eq nat_eq (Some (placed_at k))) (item_places db arm) ≡ Some k
+    position_back k less =
+        ap (position (option_eq nat_eq (Some (placed_at k)))) item_places_back
+        ∙ position_from-zero (option_eq nat_eq (Some (placed_at k))) (map (λ (p : ℕ × Column). Some (placed_at p.0)) (enumerate_from 0 table.columns))
+        ∙ first_equal placed_at (placed_at k) k 0 table.columns less (ap placed_at (zero-add k)) (λ j less_j e. placed_apart j k less_j less (ap placed_at (sym (zero-add j)) ∙ e))
+        ∙ ap Some (zero-add k)
 
-  -- a key column is served by the first target
-  placed_first : (k : ℕ) (s : Own_serves first k) → 0 < length (refs_in k first) → placed_at k ≡ s.at
-  placed_first k s some =
-      let low : s.at < length (own_of first) = omega (arith, s.within, length-map {B = Own} first.columns (λ (c : Column_copied). (first.name, c))) in
-      let here : get_or (all_own copies) s.at no_own ≡ (first.name, get_or first.columns s.at ([], 0)) = get_or_append_left (own_of first) (all_own more) no_own s.at low ∙ own_at first s.at s.within in
-      let in_range : s.at < length (all_own copies) = omega (arith, low, length-append (own_of first) (all_own more)) in
-      let ref : first_ref (refs_of copies k) ≡ ref_to (get_or (all_own copies) s.at no_own) = get_or_append_left (refs_in k first) (refs_of more k) (unqualified []) 0 some ∙ s.is ∙ ap ref_to (sym here) in
-      ap₂ (λ (sc : Scope) (r : Ref). place_of sc r) scope ref
-      ∙ ap (λ (places : List ℕ). get_or places 0 0) (means_own (admit_at table) itself symmetric (all_own copies) s.at no_own in_range apart)
+    -- a key column is served by the first target
+    placed_first : (k : ℕ) (s : Own_serves first k) → 0 < length (refs_in k first) → placed_at k ≡ s.at
+    placed_first k s some =
+        let low : s.at < length (own_of first) = omega (arith, s.within, length-map {B = Own} first.columns (λ (c : Column_copied). (first.name, c))) in
+        let here : get_or (all_own copies) s.at no_own ≡ (first.name, get_or first.columns s.at ([], 0)) = get_or_append_left (own_of first) (all_own more) no_own s.at low ∙ own_at first s.at s.within in
+        let in_range : s.at < length (all_own copies) = omega (arith, low, length-append (own_of first) (all_own more)) in
+        let ref : first_ref (refs_of copies k) ≡ ref_to (get_or (all_own copies) s.at no_own) = get_or_append_left (refs_in k first) (refs_of more k) (unqualified []) 0 some ∙ s.is ∙ ap ref_to (sym here) in
+        ap₂ (λ (sc : Scope) (r : Ref). place_of sc r) scope ref
+        ∙ ap (λ (places : List ℕ). get_or places 0 0) (means_own (admit_at table) itself symmetric (all_own copies) s.at no_own in_range apart)
 
-  -- a column of the old table that the first target has
-  abbrev pub InFirst : ℕ → Type 0
-  InFirst place = (place < length table.columns) × (0 < length (refs_in place first))
+    -- a column of the old table that the first target has
+    abbrev pub InFirst : ℕ → Type 0
+    InFirst place = (place < length table.columns) × (0 < length (refs_in place first))
 
-  abbrev item_of_key : ℕ → Option ℕ
-  item_of_key place = position (option_eq nat_eq (Some place)) (item_places db arm)
+    abbrev item_of_key : ℕ → Option ℕ
+    item_of_key place = position (option_eq nat_eq (Some place)) (item_places db arm)
 
-  key_again : (ks : List ℕ) → AllByRecursion InFirst ks
-      → filter_map (λ (o : Option ℕ). o) (map item_of_key (filter_map (λ (o : Option ℕ). o) (map (place_copied first) ks))) ≡ ks
-  key_again [] all = refl
-  key_again (k ∷ ks) all =
-      let s : Own_serves first k = own_serves first k all.0.1 in
-      let item : item_of_key s.at ≡ Some k = ap item_of_key (sym (placed_first k s all.0.1)) ∙ position_back k all.0.0 in
-      ap (λ (o : Option ℕ). filter_map (λ (o : Option ℕ). o) (map item_of_key (filter_map (λ (o : Option ℕ). o) (o ∷ map (place_copied first) ks)))) s.found
-      ∙ ap (λ (o : Option ℕ). filter_map (λ (o : Option ℕ). o) (o ∷ map item_of_key (filter_map (λ (o : Option ℕ). o) (map (place_copied first) ks)))) item
-      ∙ ap (λ (rest : List ℕ). k ∷ rest) (key_again ks all.1)
+    key_again : (ks : List ℕ) → AllByRecursion InFirst ks
+        → filter_map (λ (o : Option ℕ). o) (map item_of_key (filter_map (λ (o : Option ℕ). o) (map (place_copied first) ks))) ≡ ks
+    key_again [] all = refl
+    key_again (k ∷ ks) all =
+        let s : Own_serves first k = own_serves first k all.0.1 in
+        let item : item_of_key s.at ≡ Some k = ap item_of_key (sym (placed_first k s all.0.1)) ∙ position_back k all.0.0 in
+        ap (λ (o : Option ℕ). filter_map (λ (o : Option ℕ). o) (map item_of_key (filter_map (λ (o : Option ℕ). o) (o ∷ map (place_copied first) ks)))) s.found
+        ∙ ap (λ (o : Option ℕ). filter_map (λ (o : Option ℕ). o) (o ∷ map item_of_key (filter_map (λ (o : Option ℕ). o) (map (place_copied first) ks)))) item
+        ∙ ap (λ (rest : List ℕ). k ∷ rest) (key_again ks all.1)
 
-  -- RENEWED: the target becomes the old table
-  pub table_back : AllByRecursion InFirst table.key → arm_kind db arm ≡ ByFrom → from_key db arm ≡ filter_map (λ (o : Option ℕ). o) (map (place_copied first) table.key)
-      → target_table db (target_back table copies) ≡ table
-  table_back all kind from =
-      let columns = columns_again copies (column_admit db (target_back table copies)) 0 table.columns
-      (λ k less. ap (column_admit db (target_back table copies)) (zero-add k) ∙ admit_again k less) in
-      let key : filter_map (λ (o : Option ℕ). o) (map item_of_key (key_by db arm (arm_kind db arm))) ≡ table.key =
-      ap (λ (kind : ArmKind). filter_map (λ (o : Option ℕ). o) (map item_of_key (key_by db arm kind))) kind
-      ∙ ap (λ (ks : List ℕ). filter_map (λ (o : Option ℕ). o) (map item_of_key ks)) from
-      ∙ key_again table.key all in
-      ap₂ (λ (cs : List Column) (ks : List ℕ). let t : Table = record { name = table.name; columns = cs; key = ks } in t) columns key
+    -- RENEWED: the target becomes the old table
+    pub table_back : AllByRecursion InFirst table.key → arm_kind db arm ≡ ByFrom → from_key db arm ≡ filter_map (λ (o : Option ℕ). o) (map (place_copied first) table.key)
+        → target_table db (target_back table copies) ≡ table
+    table_back all kind from =
+        let columns = columns_again copies (column_admit db (target_back table copies)) 0 table.columns
+        (λ k less. ap (column_admit db (target_back table copies)) (zero-add k) ∙ admit_again k less) in
+        let key : filter_map (λ (o : Option ℕ). o) (map item_of_key (key_by db arm (arm_kind db arm))) ≡ table.key =
+        ap (λ (kind : ArmKind). filter_map (λ (o : Option ℕ). o) (map item_of_key (key_by db arm kind))) kind
+        ∙ ap (λ (ks : List ℕ). filter_map (λ (o : Option ℕ). o) (map item_of_key ks)) from
+        ∙ key_again table.key all in
+        ap₂ (λ (cs : List Column) (ks : List ℕ). let t : Table = record { name = table.name; columns = cs; key = ks } in t) columns key

@@ -76,10 +76,10 @@ module _ (table : Table) where
       map-map (λ (c : Column). let s : List ℕ × Column = (copied.name, c) in s) column_of copied.columns
       ∙ sym (map-map (in_scope admit_at) (λ (c : Column_copied). let own : Own = (copied.name, c) in own) copied.columns)
 
-  table_found : (db : Database) (rows : List (List Value)) (copied : Copied) → stored_at db copied.name ≡ Some (stored_copied rows copied) → table_at db copied.name ≡ table_copied copied
+  pub table_found : (db : Database) (rows : List (List Value)) (copied : Copied) → stored_at db copied.name ≡ Some (stored_copied rows copied) → table_at db copied.name ≡ table_copied copied
   table_found db rows copied e = ap (λ (found : Option Stored). unwrap_or (option_map (λ (s : Stored). s.table) found) no_table) e
 
-  rows_found : (db : Database) (rows : List (List Value)) (copied : Copied) → stored_at db copied.name ≡ Some (stored_copied rows copied) → table_rows db copied.name ≡ map (copied_row copied.columns) rows
+  pub rows_found : (db : Database) (rows : List (List Value)) (copied : Copied) → stored_at db copied.name ≡ Some (stored_copied rows copied) → table_rows db copied.name ≡ map (copied_row copied.columns) rows
   rows_found db rows copied e = ap (λ (found : Option Stored). unwrap_or (option_map (λ (s : Stored). s.rows) found) []) e
 
   -- their columns, side by side
@@ -99,19 +99,19 @@ module _ (table : Table) where
       (stand : (place : ℕ) → place < length table.columns → 0 < length (refs_of copies place))
       (db : Database) (scope : arm_scope db (arm_back table copies) ≡ map (in_scope admit_at) (all_own copies))
     where
-    row_again : (row : List Value) → IsLong row
-        → map (item_over db (arm_back table copies) (copied_row (map (λ (own : Own). own.1) (all_own copies)) row ∷ [])) (arm_back table copies).items ≡ row
-    row_again row long =
-        map-map (item_over db (arm_back table copies) (copied_row (map (λ (own : Own). own.1) (all_own copies)) row ∷ [])) (item_back copies) (enumerate_from 0 table.columns)
-        ∙ ap (λ (sc : Scope). map (λ (p : ℕ × Column). read_in sc (copied_row (map (λ (own : Own). own.1) (all_own copies)) row) (first_ref (refs_of copies p.0))) (enumerate_from 0 table.columns)) scope
-        ∙ row_back admit_at itself symmetric copies apart table.columns row long stand
+      row_again : (row : List Value) → IsLong row
+          → map (item_over db (arm_back table copies) (copied_row (map (λ (own : Own). own.1) (all_own copies)) row ∷ [])) (arm_back table copies).items ≡ row
+      row_again row long =
+          map-map (item_over db (arm_back table copies) (copied_row (map (λ (own : Own). own.1) (all_own copies)) row ∷ [])) (item_back copies) (enumerate_from 0 table.columns)
+          ∙ ap (λ (sc : Scope). map (λ (p : ℕ × Column). read_in sc (copied_row (map (λ (own : Own). own.1) (all_own copies)) row) (first_ref (refs_of copies p.0))) (enumerate_from 0 table.columns)) scope
+          ∙ row_back admit_at itself symmetric copies apart table.columns row long stand
 
-    -- each row of the targets, side by side, gives its old row
-    pub rows_again : (rows : List (List Value)) → AllByRecursion IsLong rows
-        → map (λ (rs : List (List Value)). map (item_over db (arm_back table copies) rs) (arm_back table copies).items)
-        (map (λ (row : List Value). row ∷ []) (map (copied_row (map (λ (own : Own). own.1) (all_own copies))) rows)) ≡ rows
-    rows_again [] all = refl
-    rows_again (row ∷ rows) all = ap₂ (λ (r : List Value) (rs : List (List Value)). r ∷ rs) (row_again row all.0) (rows_again rows all.1)
+      -- each row of the targets, side by side, gives its old row
+      pub rows_again : (rows : List (List Value)) → AllByRecursion IsLong rows
+          → map (λ (rs : List (List Value)). map (item_over db (arm_back table copies) rs) (arm_back table copies).items)
+          (map (λ (row : List Value). row ∷ []) (map (copied_row (map (λ (own : Own). own.1) (all_own copies))) rows)) ≡ rows
+      rows_again [] all = refl
+      rows_again (row ∷ rows) all = ap₂ (λ (r : List Value) (rs : List (List Value)). r ∷ rs) (row_again row all.0) (rows_again rows all.1)
 
   columns_of_own : (copied : Copied) → map (λ (own : Own). own.1) (own_of copied) ≡ copied.columns
   columns_of_own copied = map-map (λ (own : Own). own.1) (λ (c : Column_copied). let own : Own = (copied.name, c) in own) copied.columns ∙ map_itself copied.columns
@@ -147,63 +147,63 @@ module _ (table : Table) where
   module _ (itself : (x : Own) → same_own x x ≡ true) (symmetric : (x y : Own) → same_own x y ≡ same_own y x)
       (first second : Copied) (apart : are_apart same_own (all_own (first ∷ second ∷ [])) ≡ true)
     where
-    -- each column of the second target's key is among the places of ON
-    keys_among : (on : List ℕ) (sc : Scope) (ks : List ℕ) → sc ≡ scope_of_both admit_at itself symmetric first second apart → AllByRecursion (InBoth first second) ks
-        → list_all (λ (k : ℕ). has nat_eq on (place_of sc (first_ref (refs_in k second)))) ks ≡ true
-        → list_all (has nat_eq on) (map (λ (k : ℕ). length (own_of first) + k) (filter_map (λ (o : Option ℕ). o) (map (place_copied second) ks))) ≡ true
-    keys_among on sc [] is both all = refl
-    keys_among on sc (k ∷ ks) is both all =
-        let s : Own_serves second k = own_serves second k both.0.1 in
-        let placed : place_of sc (first_ref (refs_in k second)) ≡ length (own_of first) + s.at =
-        ap (λ (scope : Scope). place_of scope (first_ref (refs_in k second))) is
-        ∙ ap (λ (places : List ℕ). get_or places 0 0) (meant_second admit_at itself symmetric first second apart k s) in
-        let here : has nat_eq on (length (own_of first) + s.at) ≡ true = ap (has nat_eq on) (sym placed) ∙ (and_parts _ _ all).0 in
-        ap (λ (o : Option ℕ). list_all (has nat_eq on) (map (λ (k : ℕ). length (own_of first) + k) (filter_map (λ (o : Option ℕ). o) (o ∷ map (place_copied second) ks)))) s.found
-        ∙ and_from _ _ here (keys_among on sc ks is both.1 (and_parts _ _ all).1)
+      -- each column of the second target's key is among the places of ON
+      keys_among : (on : List ℕ) (sc : Scope) (ks : List ℕ) → sc ≡ scope_of_both admit_at itself symmetric first second apart → AllByRecursion (InBoth first second) ks
+          → list_all (λ (k : ℕ). has nat_eq on (place_of sc (first_ref (refs_in k second)))) ks ≡ true
+          → list_all (has nat_eq on) (map (λ (k : ℕ). length (own_of first) + k) (filter_map (λ (o : Option ℕ). o) (map (place_copied second) ks))) ≡ true
+      keys_among on sc [] is both all = refl
+      keys_among on sc (k ∷ ks) is both all =
+          let s : Own_serves second k = own_serves second k both.0.1 in
+          let placed : place_of sc (first_ref (refs_in k second)) ≡ length (own_of first) + s.at =
+          ap (λ (scope : Scope). place_of scope (first_ref (refs_in k second))) is
+          ∙ ap (λ (places : List ℕ). get_or places 0 0) (meant_second admit_at itself symmetric first second apart k s) in
+          let here : has nat_eq on (length (own_of first) + s.at) ≡ true = ap (has nat_eq on) (sym placed) ∙ (and_parts _ _ all).0 in
+          ap (λ (o : Option ℕ). list_all (has nat_eq on) (map (λ (k : ℕ). length (own_of first) + k) (filter_map (λ (o : Option ℕ). o) (o ∷ map (place_copied second) ks)))) s.found
+          ∙ and_from _ _ here (keys_among on sc ks is both.1 (and_parts _ _ all).1)
 
-    module _ (both : AllByRecursion (InBoth first second) table.key) (db : Database) (rows : List (List Value)) (stands : StandIn db rows (first ∷ second ∷ [])) where
-      abbrev arm : Arm
-      arm = arm_back table (first ∷ second ∷ [])
+      module _ (both : AllByRecursion (InBoth first second) table.key) (db : Database) (rows : List (List Value)) (stands : StandIn db rows (first ∷ second ∷ [])) where
+        abbrev arm : Arm
+        arm = arm_back table (first ∷ second ∷ [])
 
-      scope : arm_scope db arm ≡ map (in_scope admit_at) (all_own (first ∷ second ∷ []))
-      scope = scopes_found db rows (first ∷ second ∷ []) stands
+        scope : arm_scope db arm ≡ map (in_scope admit_at) (all_own (first ∷ second ∷ []))
+        scope = scopes_found db rows (first ∷ second ∷ []) stands
 
-      wide : width db arm ≡ length (own_of first)
-      wide =
-          ap (λ (t : Table). length t.columns) (table_found db rows first stands.0) ∙ length-map first.columns column_of
-          ∙ sym (length-map {B = Own} first.columns (λ (c : Column_copied). (first.name, c)))
+        wide : width db arm ≡ length (own_of first)
+        wide =
+            ap (λ (t : Table). length t.columns) (table_found db rows first stands.0) ∙ length-map first.columns column_of
+            ∙ sym (length-map {B = Own} first.columns (λ (c : Column_copied). (first.name, c)))
 
-      on_join : list_all (has nat_eq (on_places db arm)) (join_key db arm) ≡ true
-      on_join =
-          ap (list_all (has nat_eq (on_places db arm)))
-          (append-nil (map (λ (k : ℕ). width db arm + k) (table_at db second.name).key)
-          ∙ ap₂ (λ (n : ℕ) (t : Table). map (λ (k : ℕ). n + k) t.key) wide (table_found db rows second stands.1.0))
-          ∙ keys_among (on_places db arm) (arm_scope db arm) table.key scope both (places_of_on table.key (arm_scope db arm) first second)
+        on_join : list_all (has nat_eq (on_places db arm)) (join_key db arm) ≡ true
+        on_join =
+            ap (list_all (has nat_eq (on_places db arm)))
+            (append-nil (map (λ (k : ℕ). width db arm + k) (table_at db second.name).key)
+            ∙ ap₂ (λ (n : ℕ) (t : Table). map (λ (k : ℕ). n + k) t.key) wide (table_found db rows second stands.1.0))
+            ∙ keys_among (on_places db arm) (arm_scope db arm) table.key scope both (places_of_on table.key (arm_scope db arm) first second)
 
-      -- the rows of the first target drive the join
-      pub kind_of_two : arm_kind db arm ≡ ByFrom
-      kind_of_two = ap (λ (b : Bool). kind_by false true b (list_all (has nat_eq (on_places db arm)) (from_key db arm))) on_join
+        -- the rows of the first target drive the join
+        pub kind_of_two : arm_kind db arm ≡ ByFrom
+        kind_of_two = ap (λ (b : Bool). kind_by false true b (list_all (has nat_eq (on_places db arm)) (from_key db arm))) on_join
 
-      joined : satisfying db arm (table_rows db first.name) (table_rows db second.name) ≡ filter (λ (row : List Value). list_all (λ (pair : Ref × Ref). is_eq (value_cmp (read_in (scope_of_both admit_at itself symmetric first second apart) row pair.0) (read_in (scope_of_both admit_at itself symmetric first second apart) row pair.1))) (map (pair_back first second) table.key)) (flat_map (λ (r : List Value). map (λ (s : List Value). r ++ s) (map (copied_row second.columns) rows)) (map (copied_row first.columns) rows))
-      joined =
-          filter_always (matches_of_join db arm (table_rows db first.name) (table_rows db second.name) arm.join)
-          ∙ ap (λ (sc : Scope). filter (λ (row : List Value). list_all (is_equal_on sc row) (map (pair_back first second) table.key)) (flat_map (λ (r : List Value). map (λ (s : List Value). r ++ s) (table_rows db second.name)) (table_rows db first.name))) scope
-          ∙ ap₂ (λ (from join : List (List Value)). filter (λ (row : List Value). list_all (is_equal_on (scope_of_both admit_at itself symmetric first second apart) row) (map (pair_back first second) table.key)) (flat_map (λ (r : List Value). map (λ (s : List Value). r ++ s) join) from))
-          (rows_found db rows first stands.0) (rows_found db rows second stands.1.0)
+        joined : satisfying db arm (table_rows db first.name) (table_rows db second.name) ≡ filter (λ (row : List Value). list_all (λ (pair : Ref × Ref). is_eq (value_cmp (read_in (scope_of_both admit_at itself symmetric first second apart) row pair.0) (read_in (scope_of_both admit_at itself symmetric first second apart) row pair.1))) (map (pair_back first second) table.key)) (flat_map (λ (r : List Value). map (λ (s : List Value). r ++ s) (map (copied_row second.columns) rows)) (map (copied_row first.columns) rows))
+        joined =
+            filter_always (matches_of_join db arm (table_rows db first.name) (table_rows db second.name) arm.join)
+            ∙ ap (λ (sc : Scope). filter (λ (row : List Value). list_all (is_equal_on sc row) (map (pair_back first second) table.key)) (flat_map (λ (r : List Value). map (λ (s : List Value). r ++ s) (table_rows db second.name)) (table_rows db first.name))) scope
+            ∙ ap₂ (λ (from join : List (List Value)). filter (λ (row : List Value). list_all (is_equal_on (scope_of_both admit_at itself symmetric first second apart) row) (map (pair_back first second) table.key)) (flat_map (λ (r : List Value). map (λ (s : List Value). r ++ s) join) from))
+            (rows_found db rows first stands.0) (rows_found db rows second stands.1.0)
 
-      columns_of_both : map (λ (own : Own). own.1) (all_own (first ∷ second ∷ [])) ≡ first.columns ++ second.columns
-      columns_of_both =
-          map-append (λ (own : Own). own.1) (own_of first) (own_of second ++ [])
-          ∙ ap₂ (λ (a b : List Column_copied). a ++ b) (columns_of_own first)
-          (map-append (λ (own : Own). own.1) (own_of second) [] ∙ append-nil (map (λ (own : Own). own.1) (own_of second)) ∙ columns_of_own second)
+        columns_of_both : map (λ (own : Own). own.1) (all_own (first ∷ second ∷ [])) ≡ first.columns ++ second.columns
+        columns_of_both =
+            map-append (λ (own : Own). own.1) (own_of first) (own_of second ++ [])
+            ∙ ap₂ (λ (a b : List Column_copied). a ++ b) (columns_of_own first)
+            (map-append (λ (own : Own). own.1) (own_of second) [] ∙ append-nil (map (λ (own : Own). own.1) (own_of second)) ∙ columns_of_own second)
 
-      -- TWO: targets that have all columns between them give the old rows, joined on the copies of the key
-      pub image_of_two : ((place : ℕ) → place < length table.columns → 0 < length (refs_of (first ∷ second ∷ []) place))
-          → AllByRecursion IsLong rows → rises key_cmp (map (key_of table) rows) ≡ true
-          → image_of db (target_back table (first ∷ second ∷ [])) ≡ rows
-      image_of_two stand long keyed =
-          append-nil (arm_rows db arm (table_rows db first.name) (table_rows db second.name))
-          ∙ ap (λ (kind : ArmKind). map (λ (g : List (List Value)). map (item_over db arm g) arm.items) (groups_by db arm kind (satisfying db arm (table_rows db first.name) (table_rows db second.name)))) kind_of_two
-          ∙ ap (λ (rs : List (List Value)). map (λ (g : List (List Value)). map (item_over db arm g) arm.items) (map (λ (row : List Value). row ∷ []) rs))
-          (joined ∙ joined_back admit_at itself symmetric first second apart table rows both keyed ∙ ap (λ (cs : List Column_copied). map (copied_row cs) rows) (sym columns_of_both))
-          ∙ rows_again itself symmetric (first ∷ second ∷ []) apart stand db scope rows long
+        -- TWO: targets that have all columns between them give the old rows, joined on the copies of the key
+        pub image_of_two : ((place : ℕ) → place < length table.columns → 0 < length (refs_of (first ∷ second ∷ []) place))
+            → AllByRecursion IsLong rows → rises key_cmp (map (key_of table) rows) ≡ true
+            → image_of db (target_back table (first ∷ second ∷ [])) ≡ rows
+        image_of_two stand long keyed =
+            append-nil (arm_rows db arm (table_rows db first.name) (table_rows db second.name))
+            ∙ ap (λ (kind : ArmKind). map (λ (g : List (List Value)). map (item_over db arm g) arm.items) (groups_by db arm kind (satisfying db arm (table_rows db first.name) (table_rows db second.name)))) kind_of_two
+            ∙ ap (λ (rs : List (List Value)). map (λ (g : List (List Value)). map (item_over db arm g) arm.items) (map (λ (row : List Value). row ∷ []) rs))
+            (joined ∙ joined_back admit_at itself symmetric first second apart table rows both keyed ∙ ap (λ (cs : List Column_copied). map (copied_row cs) rows) (sym columns_of_both))
+            ∙ rows_again itself symmetric (first ∷ second ∷ []) apart stand db scope rows long

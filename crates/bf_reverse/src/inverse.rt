@@ -54,10 +54,7 @@ fn item_back(alloc: Global, copies: &[Copied], place: u8, old: &Column) -> Resul
     ensures { IfOk result (λ item. item ≡ item_back copies.now (place, old.now)) }
 {
     let found = ref_of(alloc, copies, place)?;
-    Ok(Item::Named(
-        RawExpr::of(RawNode::Column(found)),
-        old.name.copy(alloc)?,
-    ))
+    Ok(Item::Named(RawExpr::of(RawNode::Column(found)), old.name.copy(alloc)?))
 }
 
 /// The columns of an old table.
@@ -112,11 +109,7 @@ fn join_back(alloc: Global, table: &Table, copies: &[Copied]) -> Result<Option<J
 ///
 /// # Errors
 /// Where memory runs out.
-pub(crate) fn target_back(
-    alloc: Global,
-    table: &Table,
-    copies: &[Copied],
-) -> Result<Target, Memory>
+pub(crate) fn target_back(alloc: Global, table: &Table, copies: &[Copied]) -> Result<Target, Memory>
     requires { IsTrue (keep_all table.now copies.now) }
     ensures { IfOk result (λ target. target ≡ target_back table.now copies.now) }
 {

@@ -6,9 +6,7 @@ ghost use Rattle.bf_reverse.specs.Outcomes.{IsOutcome};
 use crate::before::{database_before, last_statement, leave_block};
 use crate::reversal::Reversal;
 use crate::spelling::put_statements;
-use crate::status::{
-    ReverseStatus, Told, told_fault, told_lossy, told_no_migrate, told_refused,
-};
+use crate::status::{ReverseStatus, Told, told_fault, told_lossy, told_no_migrate, told_refused};
 use crate::undoing::reverse_on;
 use bf_base::{LONGEST_SCRIPT, Memory};
 use bf_io::{ReadError, Sink, Source, read_all, write_whole};

@@ -19,11 +19,7 @@ use std::alloc::Global;
 ///
 /// # Errors
 /// Where memory runs out.
-fn oversize(
-    alloc: Global,
-    database: &Eager,
-    sources: &[Name],
-) -> Result<Option<Refusal>, Memory>
+fn oversize(alloc: Global, database: &Eager, sources: &[Name]) -> Result<Option<Refusal>, Memory>
     ensures { IfOk result (λ refusal. refusal ≡ first_oversize database.now.database sources.now) }
 {
     for source in sources {

@@ -48,10 +48,7 @@ fn put_table(pen: &mut Pen, table: &Drawn) -> Result<(), AllocError> {
     for (place, form) in table.forms.iter().enumerate() {
         match form {
             0 => write!(pen.text, "c{place} INT, ")?,
-            1 => write!(
-                pen.text,
-                "c{place} INT CHECK (c{place} BETWEEN 0 AND 9), "
-            )?,
+            1 => write!(pen.text, "c{place} INT CHECK (c{place} BETWEEN 0 AND 9), ")?,
             _ => write!(pen.text, "c{place} VARCHAR({form}), ")?,
         }
     }
@@ -107,7 +104,12 @@ fn put_index(pen: &mut Pen, number: usize, table: &Drawn) -> Result<(), AllocErr
 }
 
 /// The query of a target: some columns of a table, under names of their own, of another column, or of none.
-fn query(alloc: Global, pen: &mut Pen, table: &Drawn, columns: Vec<usize>) -> Result<String, AllocError> {
+fn query(
+    alloc: Global,
+    pen: &mut Pen,
+    table: &Drawn,
+    columns: Vec<usize>,
+) -> Result<String, AllocError> {
     let mut query = String::new(alloc);
     let shift = pen.draw(3);
     let mut between = "SELECT ";
@@ -116,7 +118,12 @@ fn query(alloc: Global, pen: &mut Pen, table: &Drawn, columns: Vec<usize>) -> Re
         match shift {
             0 => write!(query, "c{column}")?,
             1 => write!(query, "c{column} AS d{column}")?,
-            _ => write!(query, "t{}.c{column} AS c{}", table.number, (column + 1) % 5)?,
+            _ => write!(
+                query,
+                "t{}.c{column} AS c{}",
+                table.number,
+                (column + 1) % 5
+            )?,
         }
         between = ", ";
     }

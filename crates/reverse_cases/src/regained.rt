@@ -78,7 +78,10 @@ fn before<'a>(alloc: Global, script: &'a Script) -> anyhow::Result<(Eager, &'a M
 
 /// Fails where a reply refuses.
 fn expect_allowed(replies: &[Reply]) -> anyhow::Result<()> {
-    if replies.iter().any(|reply| matches!(reply, Reply::Refused(_))) {
+    if replies
+        .iter()
+        .any(|reply| matches!(reply, Reply::Refused(_)))
+    {
         bail!("a statement is refused");
     }
     Ok(())
