@@ -7,5 +7,6 @@ pub mod Pairing
 pub mod Regained
 pub mod Renewed
 pub mod Restoring
+pub mod Standing
 pub mod Tables
 pub mod Unobjected

@@ -54,7 +54,7 @@ found_right (x ∷ xs) ys name e = elim (cases_Bool (same_name x.table.name name
       ap (λ (b : Bool). cond b (Some x) (found (xs ++ ys) name)) other ∙ found_right xs ys name rest
 ]
 
-name_is : (a b : List ℕ) → same_name a b ≡ true → a ≡ b
+pub name_is : (a b : List ℕ) → same_name a b ≡ true → a ≡ b
 name_is a b e = (name_ties a b).0 (equal_from_test _ (sym (same_name-tie a b) ∙ e))
 
 module _ (gone : List ℕ → Bool) where
