@@ -49,11 +49,11 @@ fn call_over_log(
 
 /// Tells what is printed of a script, or what steps tell. Fails where over a log something else is printed.
 #[derive(Clone, Copy)]
-pub struct Run<'a, R: Threads + Wait + Sync> {
-    pub rt: &'a R,
+pub struct Run<'a> {
+    pub rt: &'a HostRuntime,
 }
 
-impl<R: Threads + Wait + Sync> Teller for Run<'_, R> {
+impl Teller for Run<'_> {
     fn tell(&self, alloc: Global, text: &str, told: &mut String) -> anyhow::Result<()> {
         if let Some(steps) = text.strip_prefix("$ ") {
             return take_steps(self.rt, alloc, steps, told);
