@@ -7,16 +7,15 @@
 //! that tells something else is told with that, and ends the program with status 1.
 #![tactic(auto)]
 
+mod cases;
 mod desk;
 mod narrow;
 mod running;
 mod scripts;
 mod steps;
 
-use case_files::compare_files;
-use running::Run;
+use cases::compare_files;
 
 fn main(rt: HostRuntime) -> anyhow::Result<()> {
-    let run = Run { rt: &rt };
-    compare_files(&rt, &run)
+    compare_files(&rt)
 }

@@ -3,7 +3,6 @@
 use crate::desk::{Desk, LOG};
 use crate::steps::take_steps;
 use anyhow::bail;
-use case_files::Teller;
 use std::alloc::Global;
 use std::sync::Wait;
 use std::thread::Threads;
@@ -47,23 +46,21 @@ fn call_over_log(
     desk.call(rt, alloc, &["run", LOG], apart.as_str(), told)
 }
 
-/// Tells what is printed of a script, or what steps tell. Fails where over a log something else is printed.
-#[derive(Clone, Copy)]
-pub struct Run<'a, R: Threads + Wait + Sync> {
-    pub rt: &'a R,
-}
-
-impl<R: Threads + Wait + Sync> Teller for Run<'_, R> {
-    fn tell(&self, alloc: Global, text: &str, told: &mut String) -> anyhow::Result<()> {
-        if let Some(steps) = text.strip_prefix("$ ") {
-            return take_steps(self.rt, alloc, steps, told);
-        }
-        Desk::new(alloc).call(self.rt, alloc, &["try"], text, told)?;
-        let mut kept = String::new(alloc);
-        call_over_log(self.rt, alloc, text, &mut kept)?;
-        if kept != *told {
-            bail!("over a log:\n{kept}");
-        }
-        Ok(())
+/// Adds what is printed of a script, or what steps tell. Fails where over a log something else is printed.
+pub fn tell(
+    rt: &(impl Threads + Wait + Sync),
+    alloc: Global,
+    text: &str,
+    told: &mut String,
+) -> anyhow::Result<()> {
+    if let Some(steps) = text.strip_prefix("$ ") {
+        return take_steps(rt, alloc, steps, told);
     }
+    Desk::new(alloc).call(rt, alloc, &["try"], text, told)?;
+    let mut kept = String::new(alloc);
+    call_over_log(rt, alloc, text, &mut kept)?;
+    if kept != *told {
+        bail!("over a log:\n{kept}");
+    }
+    Ok(())
 }
