@@ -5,7 +5,7 @@
 mod answer;
 pub mod interleaving_laws;
 pub mod journal;
-mod lookups;
+pub mod lookups;
 pub mod machine;
 pub mod opened;
 pub mod serving;
@@ -14,6 +14,7 @@ pub mod so_far;
 pub mod stand;
 
 pub use journal::{Journal, KeepError, Unkept};
+pub use lookups::Lookups;
 pub use machine::{Machine, Parts};
 pub use opened::Opened;
 pub use serving::{in_order, prepare_next, record_len};

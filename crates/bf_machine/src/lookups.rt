@@ -48,7 +48,11 @@ impl<N: Opened> Lookups<N> {
     ///
     /// # Errors
     /// Where memory runs out.
-    fn of(alloc: Global, registry: &Registry, pass: &MigrationPass) -> Result<Lookups<N>, Memory>
+    pub fn of(
+        alloc: Global,
+        registry: &Registry,
+        pass: &MigrationPass,
+    ) -> Result<Lookups<N>, Memory>
         requires registry { registry.now ≡ N.registry }
         requires pass { Shows N.registry.migrations pass.now }
         ensures { IfOk result (λ lookups. lookups ≡ pass.now) }
@@ -69,7 +73,7 @@ impl<N: Opened> Lookups<N> {
     }
 
     /// Whether they are those of a migration.
-    fn are_of(&self, registry: &Registry, pass: &MigrationPass) -> bool
+    pub fn are_of(&self, registry: &Registry, pass: &MigrationPass) -> bool
         requires registry { registry.now ≡ N.registry }
         requires pass { Shows N.registry.migrations pass.now }
         ensures { IsTrue result → self.now.value ≡ pass.now.value }

@@ -13,6 +13,7 @@ pub mod Recorded
 pub mod Replied
 pub mod Running
 pub mod Sayable
+pub mod Serving
 pub mod Sizing
 pub mod Stating
 pub mod Telling
@@ -22,5 +23,3 @@ pub mod crashing
 pub mod deaths
 pub mod one
 pub mod saying
-pub mod threads
-pub mod Crosses

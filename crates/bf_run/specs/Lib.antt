@@ -1,16 +1,13 @@
 pub mod Answers
 pub mod Causes
-pub mod Come
 pub mod Crashing
 pub mod Creating
 pub mod Deaths
 pub mod Keeping
 pub mod Outcome
 pub mod Records
-pub mod Requests
 pub mod Running
 pub mod Sayable
-pub mod Sections
 pub mod Top
 pub mod Untold
 pub mod Words

@@ -24,7 +24,6 @@ use crate::journal_laws::{
     a_size_that_is_told_is_that_of_a_record, every_crash_leaves_a_prefix, what_ends_groups_is_told,
 };
 use crate::log_journal::LogJournal;
-use crate::phases::serve_script;
 use crate::status::{Status, disk_fault, not_a_log_line};
 use bf_base::Memory;
 use bf_disk::{Disk, DiskError, Shelf};
@@ -33,6 +32,7 @@ use bf_log::{Log, OpenError};
 use bf_machine::Parts;
 use bf_machine::interleaving_laws::events_keep_all;
 use bf_recover::reopen;
+use bf_serve::serve_script;
 use bf_store::Store;
 use bf_text::report;
 use bf_tree::Script;

@@ -2,20 +2,13 @@
 //! a run keeps its database: each change of a store is a record of the log before it is made.
 #![tactic(auto)]
 
-mod catalogs;
 mod changes;
 mod creating;
 pub mod death_laws;
-pub mod engine;
 pub mod journal_laws;
 mod keeping;
 pub mod laws;
 pub mod log_journal;
-pub mod lookups;
-mod phases;
-pub mod requests;
-mod sections;
-pub mod shared;
 pub mod status;
 pub mod top;
 pub mod words;

@@ -3,11 +3,11 @@ use Rattle.std.proofs.Common.{true, refl, sym, ◌∙◌}
 use Rattle.std.proofs.lemmas.Result.{IfOk-at_ok}
 use Rattle.bf_sql.specs.migrations.Lazy.{view_of}
 use Rattle.bf_machine.specs.interleaving.Kept.{IsKept, IsOpening, fresh}
-use Rattle.bf_run.specs.Come.{LeavesParts}
+use Rattle.bf_serve.specs.Come.{LeavesParts}
 use Rattle.bf_run.specs.Crashing.{KeepsOnLog}
 use Rattle.bf_run.proofs.Kept.{not_spent_if, recovered}
 use Rattle.bf_run.proofs.Untold.{broken_off, kept_behind}
-use Rattle.bf_run.proofs.threads.Telling.{if_ok_by, on_err, report_of, served}
+use Rattle.bf_run.proofs.Serving.{if_ok_by, on_err, report_of, served}
 use Rattle.bf_run.proofs.keeping.tell_run.Goals as goal
 
 pub returns-clause-served : goal.returns-clause-served

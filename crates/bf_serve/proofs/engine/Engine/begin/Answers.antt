@@ -1,0 +1,10 @@
+use Rattle.bf_serve.proofs.threads.Going.{goes_by_begin}
+use Rattle.bf_serve.proofs.engine.Engine.begin.Goals as goal
+
+pub invariant_of-self-2 : goal.invariant_of-self-2
+invariant_of-self-2 g c =
+    let i = c.self.invariant in
+    let m = c.self.inside.machine in
+    let goes = goes_by_begin g.J.Journal.Answers g.N.Opened.opening g.N.Beginning.begins g.N.Opened.registry m c.self.inside.journal c.self.inside.catalog i.0 i.3
+    c.begin.new.self c.args.session c.begin.result c.begin.ensures.begins c.begin.ensures.err in
+    (goes.0, i.1, i.2, goes.1)

@@ -1,0 +1,43 @@
+-- A move is kept and made, or the journal refuses it, and the group that needs it ends.
+use Rattle.std.proofs.Common.{◌≡◌, ◌≢◌, ℕ, ap, sym, subst, ◌∙◌}
+use Rattle.std.specs.Prelude.{Result, Err}
+use Rattle.bf_tree.specs.declared.reply.Cause.{Cause}
+use Rattle.bf_machine.specs.declared.stand.MoveError.{MoveError}
+use Rattle.bf_machine.specs.declared.stand.MoveError.TheVariants.{Ended, Memory as NoMemory, Old}
+use Rattle.bf_machine.specs.interleaving.Journals.{Keeps}
+use Rattle.bf_machine.specs.interleaving.Machines.{Machine}
+use Rattle.bf_serve.proofs.threads.Moving.{moved, not_moved, unkept}
+use Rattle.bf_serve.proofs.sections.move_for.Goals.{in-Ok, in-Err-Old, in-Err-Ended, in-Err-Memory}
+use Rattle.bf_serve.proofs.sections.move_for.Goals as goal
+
+pub end_needing-requires-clause-logged : goal.end_needing-requires-clause-logged
+end_needing-requires-clause-logged g c =
+    let ended = c.moved.ensures.ended c.in-Err-Ended.cause (c.in-Err-Ended.is ∙ ap Err c.in-Err-Ended.field-0-is) in
+    sym c.requires.logged ∙ ended.0
+
+old_is_no_cause : {T : Type 0} (error : MoveError) (n : ℕ) → error ≡ Old n → (cause : Cause) → ◌≢◌ {A = Result T MoveError} (Err error) (Err (Ended cause))
+old_is_no_cause {T = T} error n is cause same =
+    let clash : ◌≡◌ {A = Result T MoveError} (Err (Old n)) (Err (Ended cause)) = ap Err (sym is) ∙ same in
+    cc
+
+memory_is_no_cause : {T : Type 0} (error : MoveError) → error ≡ NoMemory → (cause : Cause) → ◌≢◌ {A = Result T MoveError} (Err error) (Err (Ended cause))
+memory_is_no_cause {T = T} error is cause same =
+    let clash : ◌≡◌ {A = Result T MoveError} (Err NoMemory) (Err (Ended cause)) = ap Err (sym is) ∙ same in
+    cc
+
+pub returns-clause-keeps : goal.returns-clause-keeps
+returns-clause-keeps g c =
+    let m : Machine = c.args.machine.now in
+    let Answers = g.J.Journal.Answers in
+    let start = g.N.Opened.opening in
+    let j = c.args.journal.now in
+    let k = c.moved.new.journal in
+    let Goal : Machine → Type 0 = λ next. Keeps Answers start m j next k in
+    elim c.match-moved.branch as (λ _. Goal c.match-moved.machine) [
+      | in-Ok w ↦ subst Goal (sym w.machine-is) (moved Answers start m c.moved.new.self j k c.args.granules.now w.in-Ok.ensures.moves (w.in-Ok.ensures.beside (λ cause same. cc)))
+      | in-Err-Old w ↦ subst Goal (sym w.machine-is) (not_moved Answers start m c.moved.new.self j k w.in-Err-Old.ensures.err (w.in-Err-Old.ensures.beside (old_is_no_cause w.in-Err-Old.field-0 _ w.in-Err-Old.field-0-is)))
+      | in-Err-Ended w ↦
+          let ended = c.moved.ensures.ended w.in-Err-Ended.cause (w.in-Err-Ended.is ∙ ap Err w.in-Err-Ended.field-0-is) in
+          subst Goal (sym w.machine-is) (unkept Answers start m c.moved.new.self w.end_needing.new.machine j k w.in-Err-Ended.cause w.in-Err-Ended.ensures.err ended.2 w.end_needing.ensures)
+      | in-Err-Memory w ↦ subst Goal (sym w.machine-is) (not_moved Answers start m c.moved.new.self j k w.in-Err-Memory.ensures.err (w.in-Err-Memory.ensures.beside (memory_is_no_cause w.in-Err-Memory.field-0 w.in-Err-Memory.field-0-is)))
+    ]

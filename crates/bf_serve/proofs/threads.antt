@@ -1,0 +1,9 @@
+pub mod Asking
+pub mod Catalogs
+pub mod Coming
+pub mod Copying
+pub mod Going
+pub mod Making
+pub mod Moving
+pub mod Needing
+pub mod Standing

@@ -1,0 +1,3 @@
+pub mod Come
+pub mod Requests
+pub mod Sections

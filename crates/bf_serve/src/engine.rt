@@ -1,0 +1,368 @@
+//! What the threads of a run share under one lock.
+
+ghost use Rattle.std.specs.Prelude.{◌≡◌, ◌<◌, [], IfOk, IfSome, Some, length};
+ghost use Rattle.boxcar.specs.Table.{Shows};
+ghost use Rattle.bf_image.specs.Migrations.{value_indexes};
+ghost use Rattle.bf_store.specs.Stores.{migration_of};
+ghost use Rattle.bf_machine.specs.interleaving.Calls.{IsPlace};
+ghost use Rattle.bf_machine.specs.interleaving.Journals.{AreSaid, IsOneRecord};
+ghost use Rattle.bf_serve.specs.Come.{HasCome};
+ghost use Rattle.bf_serve.specs.Sections.{AreNeededIfAny};
+
+use crate::requests::{Position, Request};
+use crate::sections::{Asked, Ran, ask_for, commit, move_for, present_catalog, run_statement};
+use bf_base::{Granule, Memory};
+use bf_image::{CatalogPass, MigrationPass, Registry, ValueIndexes};
+use bf_machine::{Journal, Lookups, Machine, Opened, Stand};
+use std::alloc::Global;
+use std::marker::{Brand, Model, PhantomData};
+use std::sync::{Arc, Wait};
+
+/// How a machine stood beside its journal when a run began. It has no functions; contracts alone read it.
+pub trait Beginning<J>: Opened {
+    ghost use Rattle.bf_machine.specs.interleaving.Machines.{Machine as Seen};
+
+    ghost begins: { Seen → J → Type 0 };
+}
+
+impl<J> Beginning<J> for Brand {
+    ghost use Rattle.std.specs.Prelude.{⊤};
+
+    ghost begins = { λ m j. ⊤ };
+}
+
+/// A machine beside its journal, and how much has happened. The type keeps that both have come from the beginning that
+/// it names, by events beside the journal, and that the catalog's pass reads the present catalog.
+#[derive(Drop)]
+pub struct Engine<N: Beginning<J>, J: Journal> {
+    alloc: Global,
+    machine: Machine<N>,
+    journal: J,
+    /// Reads the present catalog. `None` where there was no memory to add it to the registry.
+    catalog: Option<CatalogPass>,
+    /// Commits, ended attempts, moves and ended sessions so far.
+    count: u64,
+    /// Where the sessions of the present phase begin.
+    from: usize,
+    /// Whether memory ran out for a session, which ends the run.
+    out_of_memory: bool,
+    /// The old rows of the last migration by their values, once a session has needed them.
+    lookups: Option<Arc<Lookups<N>, Global>>,
+}
+
+impl<N: Beginning<J>, J: Journal> Model for Engine<N, J> {
+    ghost use Rattle.std.specs.Prelude.{ℕ, ◌≡◌};
+    ghost use Rattle.bf_machine.specs.interleaving.Journals.{AreSaid};
+    ghost use Rattle.bf_serve.specs.Come.{HasCome};
+    ghost use Rattle.bf_serve.specs.Requests.{IsPresentCatalog};
+
+    ghost Value = { ℕ };
+
+    ghost view = { λ e. e.count };
+
+    ghost invariant = { λ e. HasCome J.Answers N.opening N.begins e.machine e.journal
+        × (J.ends ≡ N.logged) × AreSaid J.Says N.script
+        × IsPresentCatalog N.registry e.machine e.catalog };
+}
+
+/// What a session is to do next.
+pub(crate) enum Due<N: Opened> {
+    /// Its next group has begun: its next turn.
+    Again,
+    /// Its group has ended.
+    Ending,
+    /// It waits until more has happened than this count tells.
+    Wait(u64),
+    /// Each of its statements has its reply.
+    Ended,
+    /// A statement is to be made ready; and whether anything of the last migration is left to move.
+    Statement(Position<N>, bool),
+}
+
+impl<N: Beginning<J>, J: Journal> Engine<N, J> {
+    /// The engine of a machine and a journal with which a run begins.
+    pub fn of<R: Wait>(
+        alloc: Global,
+        rt: &R,
+        registry: &Registry,
+        machine: Machine<N>,
+        journal: J,
+    ) -> Engine<N, J>
+        requires registry { registry.now ≡ N.registry }
+        requires begins { N.begins machine journal }
+        requires logged { J.ends ≡ N.logged }
+        requires said { AreSaid J.Says N.script }
+    {
+        let catalog = present_catalog(alloc, rt, registry, &machine);
+        Engine {
+            alloc,
+            machine,
+            journal,
+            catalog,
+            count: 0,
+            from: 0,
+            out_of_memory: false,
+            lookups: None,
+        }
+    }
+
+    /// The phase begins whose first session stands at a place.
+    pub(crate) fn begin_phase(&mut self, from: usize) {
+        self.from = from;
+    }
+
+    /// Where the sessions of the present phase begin.
+    pub(crate) fn phase_from(&self) -> usize {
+        self.from
+    }
+
+    /// How much has happened.
+    pub fn count(&self) -> u64
+        ensures { result ≡ self.now }
+    {
+        self.count
+    }
+
+    /// Whether memory ran out for a session.
+    pub fn is_out_of_memory(&self) -> bool {
+        self.out_of_memory
+    }
+
+    /// Notes that memory ran out for a session.
+    pub fn run_out(&mut self) {
+        self.out_of_memory = true;
+    }
+
+    /// The old rows by their values that are shared, if there are any.
+    ///
+    /// # Errors
+    /// Where memory runs out.
+    pub(crate) fn lookups(&self) -> Result<Option<Arc<Lookups<N>, Global>>, Memory> {
+        match &self.lookups {
+            Some(found) => Ok(Some(Arc::try_clone(found)?)),
+            None => Ok(None),
+        }
+    }
+
+    /// Shares the old rows of a migration by their values, in place of those before.
+    pub(crate) fn share_lookups(&mut self, lookups: Arc<Lookups<N>, Global>) {
+        self.lookups = Some(lookups);
+    }
+
+    /// Notes that something has happened that others may wait for.
+    fn happened(&mut self) {
+        self.count = self.count.saturating_add(1);
+    }
+
+    /// Begins a session's next group.
+    ///
+    /// # Errors
+    /// Where memory runs out.
+    fn begin(&mut self, session: u32) -> Result<(), Memory>
+        requires place { IsPlace N.script session }
+    {
+        let Engine { machine, .. } = self;
+        // Its contract says that the script is the one that the type names.
+        let _ = machine.script();
+        if machine.stand(session) != Stand::Begin {
+            return Ok(());
+        }
+        machine.begin(session)
+    }
+
+    /// Rolls a session's block back.
+    fn abort(&mut self, session: u32)
+        requires place { IsPlace N.script session }
+    {
+        let Engine { machine, .. } = self;
+        let _ = machine.script();
+        if machine.stand(session) != Stand::Abort {
+            return;
+        }
+        machine.abort(session);
+    }
+
+    /// Commits a session's group.
+    ///
+    /// # Errors
+    /// Where memory runs out, or too much has changed.
+    fn commit<R: Wait>(&mut self, rt: &R, registry: &Registry, session: u32) -> Result<(), Memory>
+        requires registry { registry.now ≡ N.registry }
+        requires place { IsPlace N.script session }
+    {
+        let Engine {
+            alloc,
+            machine,
+            journal,
+            catalog,
+            ..
+        } = self;
+        let _ = machine.script();
+        if machine.stand(session) != Stand::Commit {
+            return Ok(());
+        }
+        commit(*alloc, rt, registry, machine, journal, catalog, session)
+    }
+
+    /// Where a session stands whose next statement is to be made ready, and whether anything of the last migration is
+    /// left to move. `None` where no statement is next, and where there is no pass of the catalog.
+    fn position(&self, session: u32) -> Option<(Position<N>, bool)>
+        requires place { IsPlace N.script session }
+    {
+        // Their contracts say that the script is the one that the type names, and that the catalog is a database's.
+        let _ = self.machine.script();
+        let _ = self.machine.catalog();
+        let Stand::Statement(place) = self.machine.stand(session) else {
+            return None;
+        };
+        let Some(catalog) = &self.catalog else {
+            return None;
+        };
+        let migration = self.machine.migration();
+        let is_left = migration.is_some() && !self.machine.is_complete();
+        let at = Position {
+            session,
+            place,
+            in_block: self.machine.is_in_block(session),
+            catalog: catalog.copy(),
+            migration,
+            opened: PhantomData,
+        };
+        Some((at, is_left))
+    }
+
+    /// What a session is to do next; and begins or ends its group, where that is it.
+    ///
+    /// # Errors
+    /// Where memory runs out, or ran out before, or too much has changed.
+    pub(crate) fn next<R: Wait>(
+        &mut self,
+        rt: &R,
+        registry: &Registry,
+        session: u32,
+    ) -> Result<Due<N>, Memory>
+        requires registry { registry.now ≡ N.registry }
+        requires place { IsPlace N.script session }
+    {
+        if self.out_of_memory {
+            return Err(Memory);
+        }
+        let _ = self.machine.script();
+        match self.machine.stand(session) {
+            Stand::Begin => {
+                self.begin(session)?;
+                Ok(Due::Again)
+            }
+            Stand::Commit => {
+                self.commit(rt, registry, session)?;
+                self.happened();
+                Ok(Due::Ending)
+            }
+            Stand::Abort => {
+                self.abort(session);
+                self.happened();
+                Ok(Due::Ending)
+            }
+            Stand::Statement(_) => match self.position(session) {
+                Some((at, is_left)) => Ok(Due::Statement(at, is_left)),
+                None => Err(Memory),
+            },
+            Stand::Named(_) | Stand::Later => Ok(Due::Wait(self.count)),
+            Stand::Ended => {
+                self.happened();
+                Ok(Due::Ended)
+            }
+        }
+    }
+
+    /// Asks for a lock of a statement that was made ready, and tells how much has happened by then.
+    ///
+    /// # Errors
+    /// Where memory runs out.
+    pub(crate) fn ask_for(
+        &mut self,
+        registry: &Registry,
+        request: &Request<N>,
+        index: usize,
+    ) -> Result<(Asked, u64), Memory>
+        requires registry { registry.now ≡ N.registry }
+        requires index { index < length request.now.locks }
+    {
+        let Engine {
+            machine,
+            catalog,
+            count,
+            ..
+        } = self;
+        // Their contracts say that the script is the one that the type names, and has the session.
+        let _ = machine.script();
+        let _ = request.at();
+        let asked = ask_for(registry, machine, catalog, request, index)?;
+        if asked == Asked::Died {
+            *count = count.saturating_add(1);
+        }
+        Ok((asked, *count))
+    }
+
+    /// Replies to a statement that was made ready.
+    ///
+    /// # Errors
+    /// Where memory runs out, or 2 ^ 32 rows or more change.
+    pub(crate) fn run_statement(
+        &mut self,
+        registry: &Registry,
+        request: &Request<N>,
+    ) -> Result<Ran, Memory>
+        requires registry { registry.now ≡ N.registry }
+        ensures { IfOk result (AreNeededIfAny request.now) }
+    {
+        let Engine {
+            alloc,
+            machine,
+            catalog,
+            ..
+        } = self;
+        let _ = machine.script();
+        let _ = request.at();
+        run_statement(*alloc, registry, machine, catalog, request)
+    }
+
+    /// Moves granules of a migration, for a session that needs them or for none, and tells whether they have moved.
+    ///
+    /// # Errors
+    /// Where memory runs out, or 2 ^ 32 granules or 2 ^ 64 changes were made.
+    pub(crate) fn move_granules(
+        &mut self,
+        registry: &Registry,
+        session: Option<u32>,
+        migration: &MigrationPass,
+        indexes: &ValueIndexes,
+        granules: &[Granule],
+    ) -> Result<bool, Memory>
+        requires registry { registry.now ≡ N.registry }
+        requires place { IfSome session (IsPlace N.script) }
+        requires pass { Shows N.registry.migrations migration.now }
+        requires indexed { indexes.now ≡ value_indexes migration.now.value }
+        requires granules { IsOneRecord (Some (migration_of migration.now.value [])) granules.now }
+    {
+        let Engine {
+            machine,
+            journal,
+            count,
+            ..
+        } = self;
+        let _ = machine.script();
+        let moved = move_for(
+            registry, machine, journal, session, migration, indexes, granules,
+        );
+        *count = count.saturating_add(1);
+        moved
+    }
+
+    /// The machine and its journal, as they have come.
+    pub fn into_parts(self) -> (Machine<N>, J)
+        ensures { HasCome J.Answers N.opening N.begins result.0 result.1 }
+    {
+        (self.machine, self.journal)
+    }
+}

@@ -1,0 +1,186 @@
+//! The phases of a script: the sessions of each run at the same time.
+
+ghost use Rattle.std.specs.Prelude.{◌≡◌, ◌<◌, ◌≤◌, ℕ, IfOk, OnOk, length};
+ghost use Rattle.bf_sql.specs.migrations.Lazy.{view_of};
+ghost use Rattle.bf_store.specs.Stores.{IsOf};
+ghost use Rattle.bf_machine.specs.interleaving.Calls.{HasSessionEnded, IsPlace};
+ghost use Rattle.bf_machine.specs.interleaving.Journals.{AreSaid, Keeps};
+ghost use Rattle.bf_machine.specs.interleaving.Kept.{IsWithinLimits, fresh};
+ghost use Rattle.bf_machine.specs.interleaving.Machines.{Machine as Seen};
+ghost use Rattle.bf_serve.specs.Come.{HasCome, LeavesParts};
+
+use crate::engine::{Beginning, Engine};
+use crate::shared::Shared;
+use bf_base::Memory;
+use bf_image::Registry;
+use bf_machine::{Journal, Machine, Parts, in_order};
+use bf_store::Store;
+use bf_tree::{Script, Session};
+use std::alloc::Global;
+use std::marker::Brand;
+use std::sync::{Condvar, Mutex, Wait};
+use std::thread::{Threads, map_indices};
+
+/// Behind the last session of the phase that begins at a place.
+fn phase_end(sessions: &[Session], from: usize) -> usize
+    requires { from < length sessions.now }
+    ensures some { from < result }
+    ensures within { result ≤ length sessions.now }
+{
+    let phase = sessions[from].phase;
+    for to in from + 1..sessions.len() {
+        if sessions[to].phase != phase {
+            return to;
+        }
+    }
+    sessions.len()
+}
+
+/// Serves so many sessions, those of the present phase, at the same time, each on a thread of its own; one alone on the caller's.
+///
+/// # Errors
+/// Where memory runs out. Each thread has ended then.
+fn serve_phase<N: Beginning<J> + Send + Sync, J: Journal + Send, R: Threads + Wait + Sync>(
+    shared: &Shared<'_, '_, N, J, R>,
+    count: usize,
+) -> Result<(), Memory> {
+    if count == 1 {
+        return shared.serve_at(0);
+    }
+    let served = map_indices(
+        shared.rt,
+        shared.alloc,
+        count,
+        &|place| { shared.serve_at(place) },
+    )?;
+    for one in served {
+        one?;
+    }
+    Ok(())
+}
+
+/// Serves the sessions of all phases, one phase after the other.
+///
+/// # Errors
+/// Where memory runs out. Each thread has ended then.
+fn serve_all<N: Beginning<J> + Send + Sync, J: Journal + Send, R: Threads + Wait + Sync>(
+    shared: &Shared<'_, '_, N, J, R>,
+) -> Result<(), Memory> {
+    let sessions = shared.script.sessions.as_slice();
+    let mut from = 0;
+    while from < sessions.len() {
+        let to = phase_end(sessions, from);
+        shared.begin_phase(from);
+        serve_phase(shared, to - from)?;
+        from = to;
+    }
+    Ok(())
+}
+
+/// Serves a script's sessions over a machine beside its journal: those of a phase at the same time, on threads, one phase
+/// after the other; and then, one after the other, what is left. The machine and the journal come back as they have come.
+///
+/// # Errors
+/// Where memory runs out, or too much has changed. Each thread has ended then.
+fn serve_machine<N: Beginning<J> + Send + Sync, J: Journal + Send, R: Threads + Wait + Sync>(
+    alloc: Global,
+    rt: &R,
+    registry: &Registry,
+    script: Script,
+    machine: Machine<N>,
+    journal: J,
+) -> (Machine<N>, J, Result<(), Memory>)
+    requires registry { registry.now ≡ N.registry }
+    requires script { script ≡ N.script }
+    requires begins { N.begins machine journal }
+    requires logged { J.ends ≡ N.logged }
+    requires said { AreSaid J.Says N.script }
+    ensures come { HasCome J.Answers N.opening N.begins result.0 result.1 }
+    ensures ended { OnOk result.2
+        ((s : ℕ) → IsPlace result.0.script s → HasSessionEnded result.0 s) }
+{
+    let shared = Shared {
+        alloc,
+        rt,
+        engine: Mutex::new(Engine::of(alloc, rt, registry, machine, journal)),
+        happened: Condvar::new(),
+        registry,
+        script,
+    };
+    let served = serve_all(&shared);
+    let Shared {
+        alloc: _,
+        rt: _,
+        engine,
+        happened: _,
+        registry: _,
+        script: _,
+    } = shared;
+    let (mut machine, mut journal) = engine.into_inner().into_parts();
+    if served.is_err() {
+        return (machine, journal, served);
+    }
+    let served = in_order(alloc, rt, registry, &mut journal, &mut machine, &[]);
+    (machine, journal, served)
+}
+
+/// Serves a script over a store, whose type names what it began with, beside a journal.
+fn serve_over<N: Beginning<J> + Send + Sync, J: Journal + Send, R: Threads + Wait + Sync>(
+    alloc: Global,
+    rt: &R,
+    registry: &Registry,
+    store: Store,
+    script: Script,
+    retries: u16,
+    journal: J,
+) -> (J, Result<Parts, Memory>)
+    requires begins { (m : Seen) → m ≡ fresh N.logged store script retries → N.begins m journal }
+    requires opening { view_of store.lazy ≡ N.opening }
+    requires migration { IsOf N.registry store.migration }
+    requires registry { registry.now ≡ N.registry }
+    requires script { script ≡ N.script }
+    requires limits { IsWithinLimits script }
+    requires logged { J.ends ≡ N.logged }
+    requires said { AreSaid J.Says N.script }
+    ensures come { (next : Seen) × HasCome J.Answers N.opening N.begins next result.0
+        × IfOk result.1 (LeavesParts next) }
+{
+    let Ok(copy) = script.copy(alloc) else {
+        return (journal, Err(Memory));
+    };
+    let made: Result<Machine<N>, Memory> = Machine::new(alloc, store, script, retries);
+    let machine = match made {
+        Ok(machine) => machine,
+        Err(memory) => return (journal, Err(memory)),
+    };
+    let (machine, journal, served) = serve_machine(alloc, rt, registry, copy, machine, journal);
+    match served {
+        Ok(()) => (journal, Ok(machine.into_parts())),
+        Err(memory) => (journal, Err(memory)),
+    }
+}
+
+/// Serves a script over a store beside a journal, in which each change of the store is kept before it is made: the sessions of
+/// a phase at the same time, each on a thread of its own, one phase after the other. A group begins again `retries` times after
+/// deaths. What the machine leaves comes back, and the journal, whatever came of it.
+///
+/// # Errors
+/// Where memory runs out, or too much has changed. Each thread has ended then.
+pub fn serve_script<J: Journal + Send, R: Threads + Wait + Sync>(
+    alloc: Global,
+    rt: &R,
+    registry: &Registry,
+    store: Store,
+    script: Script,
+    retries: u16,
+    journal: J,
+) -> (J, Result<Parts, Memory>)
+    requires migration { IsOf registry.now store.migration }
+    requires limits { IsWithinLimits script }
+    requires said { AreSaid J.Says script }
+    ensures keeps { (next : Seen)
+        × Keeps J.Answers (view_of store.lazy) (fresh J.ends store script retries) journal next result.0
+        × IfOk result.1 (LeavesParts next) }
+{
+    serve_over::<Brand, J, R>(alloc, rt, registry, store, script, retries, journal)
+}

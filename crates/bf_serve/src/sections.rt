@@ -1,0 +1,362 @@
+//! What a thread does to the machine and its journal in one section under their lock: a lock that it asks for, a statement that has its
+//! reply, a group that ends, granules that move. Each is one event beside the journal, or none.
+
+ghost use Rattle.std.specs.Prelude.{◌≡◌, ◌⊎◌, ◌<◌, ℕ, [], All, IfOk, IfSome, IsSomeAnd, IsTrue, None, Some, length, true};
+ghost use Rattle.std.specs.Option.{option_map};
+ghost use Rattle.boxcar.specs.Table.{Shows};
+ghost use Rattle.bf_image.specs.Migrations.{value_indexes};
+ghost use Rattle.bf_store.specs.Stores.{IsOf, migration_of};
+ghost use Rattle.bf_store.specs.States.{IsComplete};
+ghost use Rattle.bf_sql.specs.Bound.{catalog_of};
+ghost use Rattle.bf_machine.specs.interleaving.Calls.{CanCommit, IsCovered, IsPlace};
+ghost use Rattle.bf_machine.specs.interleaving.Events.{EndsByLog};
+ghost use Rattle.bf_machine.specs.interleaving.Journals.{AreSaid, IsOneRecord, Keeps};
+ghost use Rattle.bf_machine.specs.interleaving.Kept.{is_of_log};
+ghost use Rattle.bf_machine.specs.interleaving.Machines.{Open, open_at};
+ghost use Rattle.bf_machine.specs.interleaving.Serving.{LeavesStore};
+ghost use Rattle.bf_serve.specs.Requests.{HoldsAll, IsCoverAt, IsPresentCatalog, IsReady, StandsAt};
+ghost use Rattle.bf_serve.specs.Sections.{AreNeededIfAny};
+
+use crate::catalogs::copy_of;
+use crate::requests::{Position, Request};
+use bf_base::{Granule, Memory};
+use bf_image::{CatalogPass, MigrationPass, Registry, ValueIndexes};
+use bf_locks::{LockAnswer, LockName, Mode};
+use bf_machine::{Journal, Machine, MoveError, Opened, Stand, Step};
+use bf_transpose::Cover;
+use bf_tree::Cause;
+use std::alloc::Global;
+use std::sync::Wait;
+
+/// A pass of a machine's catalog, which is added to the registry. `None` where memory runs out.
+pub(crate) fn present_catalog<N: Opened, R: Wait>(
+    alloc: Global,
+    rt: &R,
+    registry: &Registry,
+    machine: &Machine<N>,
+) -> Option<CatalogPass>
+    ensures { IsPresentCatalog registry.now machine.now result }
+{
+    let Ok(catalog) = copy_of(alloc, machine.catalog()) else {
+        return None;
+    };
+    registry.add_catalog(rt, catalog).ok()
+}
+
+/// Whether a machine still stands where a statement was made ready, in the catalog in which it is bound.
+fn stands_at<N: Opened>(
+    registry: &Registry,
+    machine: &Machine<N>,
+    catalog: &Option<CatalogPass>,
+    at: &Position<N>,
+) -> bool
+    requires registry { registry.now ≡ N.registry }
+    requires place { IsPlace machine.now.script at.now.session }
+    requires present { IsPresentCatalog N.registry machine.now catalog.now }
+    ensures { IsTrue result → StandsAt machine.now at.now }
+{
+    let session = at.session();
+    let Some(pass) = catalog else {
+        return false;
+    };
+    let Stand::Statement(place) = machine.stand(session) else {
+        return false;
+    };
+    if place != at.place() {
+        return false;
+    }
+    if !are_equal(machine.is_in_block(session), at.in_block()) {
+        return false;
+    }
+    registry.same_catalog(at.catalog(), pass)
+}
+
+/// Whether two answers are equal.
+fn are_equal(one: bool, other: bool) -> bool
+    ensures { IsTrue result → one ≡ other }
+{
+    one == other
+}
+
+/// How a lock was asked for.
+#[derive(Clone, Copy, Debug, PartialEq, Eq)]
+pub(crate) enum Asked {
+    Granted,
+    /// Others hold it, all of them younger.
+    Waits,
+    /// An older group holds it, and the attempt has ended.
+    Died,
+    /// The machine does not stand there any more.
+    Elsewhere,
+}
+
+/// Asks for one lock of a statement that was made ready, if the machine still stands there.
+///
+/// # Errors
+/// Where memory runs out. The machine is as it was then.
+#[tactic(auto, using(crate::proofs::threads::Coming::leaves_same, crate::proofs::threads::Coming::leaves_asked))]
+pub(crate) fn ask_for<N: Opened>(
+    registry: &Registry,
+    machine: &mut Machine<N>,
+    catalog: &Option<CatalogPass>,
+    request: &Request<N>,
+    index: usize,
+) -> Result<Asked, Memory>
+    requires registry { registry.now ≡ N.registry }
+    requires place { IsPlace machine.old.script request.now.at.session }
+    requires present { IsPresentCatalog N.registry machine.old catalog.now }
+    requires index { index < length request.now.locks }
+    ensures leaves { LeavesStore N.opening machine.old machine.new }
+    ensures present { IsPresentCatalog N.registry machine.new catalog.now }
+{
+    // Its contract says that the script is the one that the type names, and what a machine keeps.
+    let _ = machine.script();
+    let session = request.at().session();
+    if !stands_at(registry, machine, catalog, request.at()) {
+        return Ok(Asked::Elsewhere);
+    }
+    let Some(_) = machine.start(session) else {
+        return Ok(Asked::Elsewhere);
+    };
+    let (name, mode) = &request.locks()[index];
+    match machine.lock(session, name, *mode)? {
+        LockAnswer::Granted => Ok(Asked::Granted),
+        LockAnswer::Wait(_) => Ok(Asked::Waits),
+        LockAnswer::Die(_) => Ok(Asked::Died),
+    }
+}
+
+/// Whether a session's open group holds some locks.
+fn holds_all<N: Opened>(machine: &Machine<N>, session: u32, locks: &[(LockName, Mode)]) -> bool
+    requires { IsPlace machine.now.script session }
+    ensures { IsTrue result → All (λ lock. IsCovered machine.now session lock.0 lock.1) locks.now }
+{
+    for (name, mode) in locks {
+        if !machine.covers(session, name, *mode) {
+            return false;
+        }
+    }
+    true
+}
+
+/// Whether a session's open group, if there is one, holds all locks of a statement that was made ready.
+fn holds_if_open<N: Opened>(machine: &Machine<N>, request: &Request<N>) -> bool
+    requires { IsPlace machine.now.script request.now.at.session }
+    ensures { IsTrue result → (o : Open) → open_at machine.now request.now.at.session ≡ Some o
+        → HoldsAll machine.now request.now }
+{
+    let session = request.at().session();
+    match machine.start(session) {
+        Some(_) => holds_all(machine, session, request.locks()),
+        None => true,
+    }
+}
+
+/// Whether a statement that was made ready has its cover, or nothing of the last migration is left to move.
+fn is_covered<N: Opened>(machine: &Machine<N>, request: &Request<N>) -> bool
+    ensures { IsTrue result → request.now.cover ≡ None → IsSomeAnd machine.now.lazy.last IsComplete }
+{
+    match request.cover() {
+        Some(_) => true,
+        None => machine.is_complete(),
+    }
+}
+
+/// Whether two passes of a registry are of one migration, or there is neither.
+fn are_one(registry: &Registry, one: Option<&MigrationPass>, other: Option<&MigrationPass>) -> bool
+    requires one { IsOf registry.now (option_map (λ pass. pass.now) one) }
+    requires other { IsOf registry.now (option_map (λ pass. pass.now) other) }
+    ensures { IsTrue result → option_map (λ pass. pass.now.value) one.entry
+        ≡ option_map (λ pass. pass.now.value) other.entry }
+{
+    match (one, other) {
+        (Some(one), Some(other)) => registry.same_migration(one, other),
+        (None, None) => true,
+        (Some(_), None) | (None, Some(_)) => false,
+    }
+}
+
+/// How a statement went that was made ready.
+#[derive(Debug, Drop)]
+pub(crate) enum Ran {
+    /// It has its reply.
+    Replied,
+    /// These granules of the last migration are to move first.
+    Need(Vec<Granule>),
+    /// The machine does not stand there any more, or what it was made ready by has changed.
+    Elsewhere,
+}
+
+/// Whether a statement that was made ready may have its reply, or be told what it needs: the machine still stands there, in the
+/// same catalog and with the same last migration, its group holds the locks, and it has its cover, but where nothing of the
+/// migration is left to move.
+fn is_ready<N: Opened>(
+    registry: &Registry,
+    machine: &Machine<N>,
+    catalog: &Option<CatalogPass>,
+    request: &Request<N>,
+) -> bool
+    requires registry { registry.now ≡ N.registry }
+    requires place { IsPlace machine.now.script request.now.at.session }
+    requires present { IsPresentCatalog N.registry machine.now catalog.now }
+    ensures { IsTrue result → IsReady machine.now request.now }
+{
+    let at = request.at();
+    let pass = machine.migration();
+    if !stands_at(registry, machine, catalog, at) {
+        return false;
+    }
+    if !are_one(registry, at.migration(), pass.as_ref()) {
+        return false;
+    }
+    if !holds_if_open(machine, request) {
+        return false;
+    }
+    is_covered(machine, request)
+}
+
+/// Replies to a statement that may have its reply, or tells what is to move first.
+///
+/// # Errors
+/// Where memory runs out, or 2 ^ 32 rows or more change. The machine is as it was then.
+#[tactic(auto, using(crate::proofs::threads::Coming::leaves_same, crate::proofs::threads::Coming::leaves_replied))]
+fn run_ready<N: Opened>(
+    registry: &Registry,
+    machine: &mut Machine<N>,
+    request: &Request<N>,
+    cover: &Cover,
+) -> Result<Ran, Memory>
+    requires registry { registry.now ≡ N.registry }
+    requires place { IsPlace machine.old.script request.now.at.session }
+    requires ready { IsReady machine.old request.now }
+    requires cover { IsCoverAt machine.old request.now cover.now }
+    ensures leaves { LeavesStore N.opening machine.old machine.new }
+    ensures same { machine.new.db ≡ machine.old.db }
+    ensures needs { IfOk result (AreNeededIfAny request.now) }
+{
+    // Its contract says that the script is the one that the type names, and what a machine keeps.
+    let _ = machine.script();
+    let pass = machine.migration();
+    let session = request.at().session();
+    match machine.exec(registry, session, pass.as_ref(), request.bound(), cover)? {
+        Step::Replied => Ok(Ran::Replied),
+        Step::Need(granules) => Ok(Ran::Need(granules)),
+        Step::Stale(_) => Ok(Ran::Elsewhere),
+    }
+}
+
+/// Replies to a statement that was made ready, if the machine still stands there, its locks are held, and nothing that it
+/// needs is left to move.
+///
+/// # Errors
+/// Where memory runs out, or 2 ^ 32 rows or more change. The machine is as it was then.
+#[tactic(auto, using(crate::proofs::threads::Coming::leaves_same))]
+pub(crate) fn run_statement<N: Opened>(
+    alloc: Global,
+    registry: &Registry,
+    machine: &mut Machine<N>,
+    catalog: &Option<CatalogPass>,
+    request: &Request<N>,
+) -> Result<Ran, Memory>
+    requires registry { registry.now ≡ N.registry }
+    requires place { IsPlace machine.old.script request.now.at.session }
+    requires present { IsPresentCatalog N.registry machine.old catalog.now }
+    ensures leaves { LeavesStore N.opening machine.old machine.new }
+    ensures present { IsPresentCatalog N.registry machine.new catalog.now }
+    ensures needs { IfOk result (AreNeededIfAny request.now) }
+{
+    if !is_ready(registry, machine, catalog, request) {
+        return Ok(Ran::Elsewhere);
+    }
+    let nothing = Cover {
+        catalog: 0,
+        migration: 0,
+        granules: Vec::new(alloc),
+    };
+    match request.cover() {
+        Some(cover) => run_ready(registry, machine, request, cover),
+        None => run_ready(registry, machine, request, &nothing),
+    }
+}
+
+/// Commits a session's group, and adds the catalog to the registry where it has changed.
+///
+/// # Errors
+/// Where [`Machine::commit`] has one. The machine is as it was then.
+pub(crate) fn commit<N: Opened, J: Journal, R: Wait>(
+    alloc: Global,
+    rt: &R,
+    registry: &Registry,
+    machine: &mut Machine<N>,
+    journal: &mut J,
+    catalog: &mut Option<CatalogPass>,
+    session: u32,
+) -> Result<(), Memory>
+    requires registry { registry.now ≡ N.registry }
+    requires logged { J.ends ≡ N.logged }
+    requires said { AreSaid J.Says N.script }
+    requires place { IsPlace machine.old.script session }
+    requires can { CanCommit machine.old session }
+    requires present { IsPresentCatalog N.registry machine.old catalog.old }
+    ensures keeps { Keeps J.Answers N.opening machine.old journal.old machine.new
+        journal.new }
+    ensures present { IsPresentCatalog N.registry machine.new catalog.new }
+{
+    let number = machine.catalog().number();
+    machine.commit(rt, registry, journal, session)?;
+    if machine.catalog().number() != number {
+        *catalog = present_catalog(alloc, rt, registry, machine);
+    }
+    Ok(())
+}
+
+/// Moves granules of a migration, and tells whether they have moved. Where the journal does not keep the move, the open
+/// group of the session that needs them ends by the journal's cause, if a session does.
+///
+/// # Errors
+/// Where memory runs out, or 2 ^ 32 granules or 2 ^ 64 changes were made. The machine is as it was then.
+pub(crate) fn move_for<N: Opened, J: Journal>(
+    registry: &Registry,
+    machine: &mut Machine<N>,
+    journal: &mut J,
+    session: Option<u32>,
+    migration: &MigrationPass,
+    indexes: &ValueIndexes,
+    granules: &[Granule],
+) -> Result<bool, Memory>
+    requires registry { registry.now ≡ N.registry }
+    requires logged { J.ends ≡ N.logged }
+    requires place { IfSome session (IsPlace machine.old.script) }
+    requires pass { Shows N.registry.migrations migration.now }
+    requires indexed { indexes.now ≡ value_indexes migration.now.value }
+    requires granules { IsOneRecord (Some (migration_of migration.now.value [])) granules.now }
+    ensures keeps { Keeps J.Answers N.opening machine.old journal.old machine.new
+        journal.new }
+    ensures same { catalog_of machine.new.db ≡ catalog_of machine.old.db }
+{
+    match machine.moved(registry, journal, migration, indexes, granules) {
+        Ok(_) => Ok(true),
+        Err(MoveError::Old(_)) => Ok(false),
+        Err(MoveError::Ended(cause)) => {
+            end_needing(machine, session, cause);
+            Ok(false)
+        }
+        Err(MoveError::Memory) => Err(Memory),
+    }
+}
+
+/// Ends the open group of a session by a cause of the log, if there is one.
+fn end_needing<N: Opened>(machine: &mut Machine<N>, session: Option<u32>, cause: Cause)
+    requires place { IfSome session (IsPlace machine.old.script) }
+    requires logged { N.logged ≡ true }
+    requires of_log { is_of_log cause ≡ true }
+    ensures { (machine.new ≡ machine.old)
+        ⊎ ((s : ℕ) × (by : EndsByLog machine.old s machine.new) × (by.cause ≡ cause)) }
+{
+    if let Some(session) = session
+        && machine.is_current(session)
+        && machine.start(session).is_some()
+    {
+        machine.fail(session, cause);
+    }
+}
