@@ -32,7 +32,8 @@ use bf_log::{Log, OpenError};
 use bf_machine::Parts;
 use bf_machine::interleaving_laws::events_keep_all;
 use bf_recover::reopen;
-use bf_serve::serve_script;
+use bf_bench::OpenGate;
+use bf_serve::{Crew, serve_script};
 use bf_store::Store;
 use bf_text::report;
 use bf_tree::Script;
@@ -76,7 +77,14 @@ fn tell_run<D: Disk + Send, R: Threads + Wait + Sync>(
     every_crash_leaves_a_prefix(PhantomData::<D>);
     what_ends_groups_is_told(PhantomData::<D>);
     a_size_that_is_told_is_that_of_a_record(PhantomData::<D>);
-    let (journal, served) = serve_script(alloc, rt, registry, store, script, retries, journal);
+    let crew = Crew {
+        alloc,
+        rt,
+        gate: &OpenGate,
+        workers: 2,
+        retries,
+    };
+    let (journal, served) = serve_script(crew, registry, store, script, journal);
     let parts = match served {
         Ok(parts) => parts,
         Err(memory) => return (journal, Err(memory)),

@@ -1,3 +1,5 @@
 pub mod Come
 pub mod Requests
+pub mod Seats
 pub mod Sections
+pub mod Steps

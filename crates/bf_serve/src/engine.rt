@@ -1,19 +1,25 @@
 //! What the threads of a run share under one lock.
 
-ghost use Rattle.std.specs.Prelude.{◌≡◌, ◌<◌, [], IfOk, IfSome, Some, length};
+ghost use Rattle.std.specs.Prelude.{◌≡◌, ◌<◌, [], IfOk, IfSome, IsTrue, Some, length};
+ghost use Rattle.std.specs.Option.{option_map};
 ghost use Rattle.boxcar.specs.Table.{Shows};
 ghost use Rattle.bf_image.specs.Migrations.{value_indexes};
-ghost use Rattle.bf_store.specs.Stores.{migration_of};
+ghost use Rattle.bf_store.specs.Stores.{IsOf, migration_of};
 ghost use Rattle.bf_machine.specs.interleaving.Calls.{IsPlace};
 ghost use Rattle.bf_machine.specs.interleaving.Journals.{AreSaid, IsOneRecord};
 ghost use Rattle.bf_serve.specs.Come.{HasCome};
+ghost use Rattle.bf_serve.specs.Seats.{IsFreshSeatOf};
+ghost use Rattle.bf_serve.specs.Steps.{IsAhead};
 ghost use Rattle.bf_serve.specs.Sections.{AreNeededIfAny};
 
+use crate::ahead::{Ahead, Anchors, Cursor};
 use crate::requests::{Position, Request};
+use crate::seats::Seat;
 use crate::sections::{Asked, Ran, ask_for, commit, move_for, present_catalog, run_statement};
 use bf_base::{Granule, Memory};
 use bf_image::{CatalogPass, MigrationPass, Registry, ValueIndexes};
 use bf_machine::{Journal, Lookups, Machine, Opened, Stand};
+use bf_tree::Sweep;
 use std::alloc::Global;
 use std::marker::{Brand, Model, PhantomData};
 use std::sync::{Arc, Wait};
@@ -31,6 +37,26 @@ impl<J> Beginning<J> for Brand {
     ghost begins = { λ m j. ⊤ };
 }
 
+/// Sessions that run at the same time, and the workers beside them.
+#[derive(Clone, Copy, Debug)]
+pub(crate) struct Phase {
+    /// How many sessions stand before the first one.
+    pub(crate) from: usize,
+    pub(crate) sessions: usize,
+    pub(crate) workers: usize,
+}
+
+impl Phase {
+    /// No phase has begun.
+    fn none() -> Phase {
+        Phase {
+            from: 0,
+            sessions: 0,
+            workers: 0,
+        }
+    }
+}
+
 /// A machine beside its journal, and how much has happened. The type keeps that both have come from the beginning that
 /// it names, by events beside the journal, and that the catalog's pass reads the present catalog.
 #[derive(Drop)]
@@ -42,12 +68,17 @@ pub struct Engine<N: Beginning<J>, J: Journal> {
     catalog: Option<CatalogPass>,
     /// Commits, ended attempts, moves and ended sessions so far.
     count: u64,
-    /// Where the sessions of the present phase begin.
-    from: usize,
-    /// Whether memory ran out for a session, which ends the run.
+    phase: Phase,
+    /// How many sessions of the phase have not ended.
+    sessions: usize,
+    /// Whether memory ran out for an actor, which ends the run.
     out_of_memory: bool,
-    /// The old rows of the last migration by their values, once a session has needed them.
+    /// The old rows of the last migration by their values, once an actor has needed them.
     lookups: Option<Arc<Lookups<N>, Global>>,
+    /// The first seat at the trackers of the last migration, once an actor was to claim one of its granules.
+    seat: Option<Seat<N>>,
+    /// Where workers look next.
+    cursor: Cursor,
 }
 
 impl<N: Beginning<J>, J: Journal> Model for Engine<N, J> {
@@ -100,20 +131,24 @@ impl<N: Beginning<J>, J: Journal> Engine<N, J> {
             journal,
             catalog,
             count: 0,
-            from: 0,
+            phase: Phase::none(),
+            sessions: 0,
             out_of_memory: false,
             lookups: None,
+            seat: None,
+            cursor: Cursor::none(),
         }
     }
 
-    /// The phase begins whose first session stands at a place.
-    pub(crate) fn begin_phase(&mut self, from: usize) {
-        self.from = from;
+    /// A phase begins.
+    pub(crate) fn begin_phase(&mut self, phase: Phase) {
+        self.phase = phase;
+        self.sessions = phase.sessions;
     }
 
-    /// Where the sessions of the present phase begin.
-    pub(crate) fn phase_from(&self) -> usize {
-        self.from
+    /// The present phase.
+    pub(crate) fn phase(&self) -> Phase {
+        self.phase
     }
 
     /// How much has happened.
@@ -123,12 +158,12 @@ impl<N: Beginning<J>, J: Journal> Engine<N, J> {
         self.count
     }
 
-    /// Whether memory ran out for a session.
+    /// Whether memory ran out for an actor.
     pub fn is_out_of_memory(&self) -> bool {
         self.out_of_memory
     }
 
-    /// Notes that memory ran out for a session.
+    /// Notes that memory ran out for an actor.
     pub fn run_out(&mut self) {
         self.out_of_memory = true;
     }
@@ -152,6 +187,84 @@ impl<N: Beginning<J>, J: Journal> Engine<N, J> {
     /// Notes that something has happened that others may wait for.
     fn happened(&mut self) {
         self.count = self.count.saturating_add(1);
+    }
+
+    /// Notes that granules are free again.
+    pub(crate) fn note_given_back(&mut self) {
+        self.happened();
+    }
+
+    /// A seat at the trackers of a migration, which are made where it has none yet, by what of it has moved. `None` where it is not
+    /// the last one any more.
+    ///
+    /// # Errors
+    /// Where memory runs out.
+    pub(crate) fn seat(
+        &mut self,
+        registry: &Registry,
+        pass: &MigrationPass,
+    ) -> Result<Option<Seat<N>>, Memory>
+        requires registry { registry.now ≡ N.registry }
+        requires pass { Shows N.registry.migrations pass.now }
+        ensures { IfOk result (λ seat. IfSome seat (IsFreshSeatOf pass.now.value)) }
+    {
+        let last = self.machine.migration();
+        if !is_one(registry, last.as_ref(), pass) {
+            return Ok(None);
+        }
+        let mut first = self.first_seat(registry, pass)?;
+        let seat = first.split(self.alloc);
+        self.seat = Some(first);
+        Ok(Some(seat?))
+    }
+
+    /// Takes out the first seat at the trackers of the last migration, which are made where it has none yet.
+    ///
+    /// # Errors
+    /// Where memory runs out.
+    fn first_seat(&mut self, registry: &Registry, pass: &MigrationPass) -> Result<Seat<N>, Memory>
+        requires registry { registry.now ≡ N.registry }
+        requires pass { Shows N.registry.migrations pass.now }
+        ensures { IfOk result (λ seat. seat.trackers.pass.value ≡ pass.now.value) }
+    {
+        if let Some(seat) = self.seat.take()
+            && seat.is_of(registry, pass)
+        {
+            return Ok(seat);
+        }
+        let done = self.machine.done(self.alloc)?;
+        Seat::first(self.alloc, registry, pass, done.as_slice())
+    }
+
+    /// What a worker is to do next, and at most so many anchors.
+    ///
+    /// # Errors
+    /// Where memory ran out before.
+    pub(crate) fn ahead(&mut self, registry: &Registry, most: u32) -> Result<Ahead, Memory>
+        requires registry { registry.now ≡ N.registry }
+        ensures { IfOk result (IsAhead N.registry) }
+    {
+        if self.out_of_memory {
+            return Err(Memory);
+        }
+        if self.sessions == 0 {
+            return Ok(Ahead::Ended);
+        }
+        let (Some(pass), Sweep::Running { unit, position, .. }) = (
+            self.machine.migration(),
+            self.machine.sweep(),
+        ) else {
+            return Ok(Ahead::Wait(self.count));
+        };
+        let last = registry.migration(&pass);
+        let (unit, from, to) = self.cursor.take(last, (unit, position), most);
+        Ok(Ahead::Anchors(Anchors {
+            pass,
+            unit,
+            from,
+            to,
+            seen: self.count,
+        }))
     }
 
     /// Begins a session's next group.
@@ -269,6 +382,7 @@ impl<N: Beginning<J>, J: Journal> Engine<N, J> {
             },
             Stand::Named(_) | Stand::Later => Ok(Due::Wait(self.count)),
             Stand::Ended => {
+                self.sessions = self.sessions.saturating_sub(1);
                 self.happened();
                 Ok(Due::Ended)
             }
@@ -304,7 +418,7 @@ impl<N: Beginning<J>, J: Journal> Engine<N, J> {
         Ok((asked, *count))
     }
 
-    /// Replies to a statement that was made ready.
+    /// Replies to a statement that was made ready, and tells how much has happened by then.
     ///
     /// # Errors
     /// Where memory runs out, or 2 ^ 32 rows or more change.
@@ -312,19 +426,21 @@ impl<N: Beginning<J>, J: Journal> Engine<N, J> {
         &mut self,
         registry: &Registry,
         request: &Request<N>,
-    ) -> Result<Ran, Memory>
+    ) -> Result<(Ran, u64), Memory>
         requires registry { registry.now ≡ N.registry }
-        ensures { IfOk result (AreNeededIfAny request.now) }
+        ensures { IfOk result (λ ran. AreNeededIfAny request.now ran.0) }
     {
         let Engine {
             alloc,
             machine,
             catalog,
+            count,
             ..
         } = self;
         let _ = machine.script();
         let _ = request.at();
-        run_statement(*alloc, registry, machine, catalog, request)
+        let ran = run_statement(*alloc, registry, machine, catalog, request)?;
+        Ok((ran, *count))
     }
 
     /// Moves granules of a migration, for a session that needs them or for none, and tells whether they have moved.
@@ -364,5 +480,17 @@ impl<N: Beginning<J>, J: Journal> Engine<N, J> {
         ensures { HasCome J.Answers N.opening N.begins result.0 result.1 }
     {
         (self.machine, self.journal)
+    }
+}
+
+/// Whether a pass is of the last migration, if there is one.
+fn is_one(registry: &Registry, last: Option<&MigrationPass>, pass: &MigrationPass) -> bool
+    requires last { IsOf registry.now (option_map (λ pass. pass.now) last) }
+    requires pass { Shows registry.now.migrations pass.now }
+    ensures { IsTrue result → option_map (λ pass. pass.now.value) last.entry ≡ Some pass.now.value }
+{
+    match last {
+        Some(last) => registry.same_migration(last, pass),
+        None => false,
     }
 }

@@ -2,11 +2,14 @@
 //! them in sections.
 #![tactic(auto)]
 
+mod ahead;
+pub mod bench;
 mod catalogs;
 pub mod engine;
-mod phases;
+pub mod phases;
 pub mod requests;
+pub mod seats;
 mod sections;
 pub mod shared;
 
-pub use phases::serve_script;
+pub use phases::{Crew, serve_script};

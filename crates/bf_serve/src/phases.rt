@@ -9,9 +9,11 @@ ghost use Rattle.bf_machine.specs.interleaving.Kept.{IsWithinLimits, fresh};
 ghost use Rattle.bf_machine.specs.interleaving.Machines.{Machine as Seen};
 ghost use Rattle.bf_serve.specs.Come.{HasCome, LeavesParts};
 
-use crate::engine::{Beginning, Engine};
+use crate::engine::{Beginning, Engine, Phase};
+use crate::seats::Seats;
 use crate::shared::Shared;
 use bf_base::Memory;
+use bf_bench::{Gate, serve_session, serve_worker};
 use bf_image::Registry;
 use bf_machine::{Journal, Machine, Parts, in_order};
 use bf_store::Store;
@@ -20,6 +22,19 @@ use std::alloc::Global;
 use std::marker::Brand;
 use std::sync::{Condvar, Mutex, Wait};
 use std::thread::{Threads, map_indices};
+
+/// What a script is served with: threads, a gate, and how many workers there are and how often a group begins again after
+/// deaths.
+#[derive(Clone, Copy)]
+pub struct Crew<'r, R: Wait, G: Gate> {
+    pub alloc: Global,
+    pub rt: &'r R,
+    pub gate: &'r G,
+    /// How many workers move rows beside the sessions of a phase.
+    pub workers: u8,
+    /// How often a group begins again after a death.
+    pub retries: u16,
+}
 
 /// Behind the last session of the phase that begins at a place.
 fn phase_end(sessions: &[Session], from: usize) -> usize
@@ -36,22 +51,58 @@ fn phase_end(sessions: &[Session], from: usize) -> usize
     sessions.len()
 }
 
-/// Serves so many sessions, those of the present phase, at the same time, each on a thread of its own; one alone on the caller's.
+/// The number of the session at a place, counted from 1, or of a worker behind all of them; the greatest of its type, which no
+/// session has, where it has none.
+fn number_at(place: usize) -> u32 {
+    match u32::try_from(place) {
+        Ok(before) => before.saturating_add(1),
+        Err(_) => u32::MAX,
+    }
+}
+
+/// Serves an actor of the present phase: a session, or behind those a worker.
+///
+/// # Errors
+/// Where memory runs out, or ran out for another actor. Each actor ends then.
+fn serve_actor<N: Beginning<J>, J: Journal, R: Wait, G: Gate>(
+    shared: &Shared<'_, '_, N, J, R, G>,
+    place: usize,
+) -> Result<(), Memory> {
+    let (rt, alloc, gate) = (shared.rt, shared.alloc, shared.gate);
+    let phase = shared.phase();
+    let actor = number_at(phase.from.saturating_add(place));
+    let served = if place < phase.sessions {
+        let mut seats = shared.seats_of(actor);
+        serve_session(rt, alloc, shared, gate, &mut seats, actor)
+    } else {
+        let mut seats = Seats::of(alloc, None);
+        serve_worker(rt, alloc, shared, gate, &mut seats, actor)
+    };
+    if served.is_err() {
+        shared.run_out();
+    }
+    served
+}
+
+/// Serves so many actors of the present phase at the same time, each on a thread of its own; one alone on the caller's. Its workers
+/// stand behind its sessions: where no thread can be made, one actor is served behind the other.
 ///
 /// # Errors
 /// Where memory runs out. Each thread has ended then.
-fn serve_phase<N: Beginning<J> + Send + Sync, J: Journal + Send, R: Threads + Wait + Sync>(
-    shared: &Shared<'_, '_, N, J, R>,
-    count: usize,
-) -> Result<(), Memory> {
-    if count == 1 {
-        return shared.serve_at(0);
+fn serve_phase<
+    N: Beginning<J> + Send + Sync,
+    J: Journal + Send,
+    R: Threads + Wait + Sync,
+    G: Gate + Sync,
+>(shared: &Shared<'_, '_, N, J, R, G>, actors: usize) -> Result<(), Memory> {
+    if actors == 1 {
+        return serve_actor(shared, 0);
     }
     let served = map_indices(
         shared.rt,
         shared.alloc,
-        count,
-        &|place| { shared.serve_at(place) },
+        actors,
+        &|place| { serve_actor(shared, place) },
     )?;
     for one in served {
         one?;
@@ -59,19 +110,28 @@ fn serve_phase<N: Beginning<J> + Send + Sync, J: Journal + Send, R: Threads + Wa
     Ok(())
 }
 
-/// Serves the sessions of all phases, one phase after the other.
+/// Serves the sessions of all phases, one phase after the other, and beside those of each so many workers.
 ///
 /// # Errors
 /// Where memory runs out. Each thread has ended then.
-fn serve_all<N: Beginning<J> + Send + Sync, J: Journal + Send, R: Threads + Wait + Sync>(
-    shared: &Shared<'_, '_, N, J, R>,
-) -> Result<(), Memory> {
+fn serve_all<
+    N: Beginning<J> + Send + Sync,
+    J: Journal + Send,
+    R: Threads + Wait + Sync,
+    G: Gate + Sync,
+>(shared: &Shared<'_, '_, N, J, R, G>, workers: u8) -> Result<(), Memory> {
     let sessions = shared.script.sessions.as_slice();
+    let workers = workers as usize;
     let mut from = 0;
     while from < sessions.len() {
         let to = phase_end(sessions, from);
-        shared.begin_phase(from);
-        serve_phase(shared, to - from)?;
+        let sessions = to - from;
+        shared.begin_phase(Phase {
+            from,
+            sessions,
+            workers,
+        });
+        serve_phase(shared, sessions.saturating_add(workers))?;
         from = to;
     }
     Ok(())
@@ -82,9 +142,13 @@ fn serve_all<N: Beginning<J> + Send + Sync, J: Journal + Send, R: Threads + Wait
 ///
 /// # Errors
 /// Where memory runs out, or too much has changed. Each thread has ended then.
-fn serve_machine<N: Beginning<J> + Send + Sync, J: Journal + Send, R: Threads + Wait + Sync>(
-    alloc: Global,
-    rt: &R,
+fn serve_machine<
+    N: Beginning<J> + Send + Sync,
+    J: Journal + Send,
+    R: Threads + Wait + Sync,
+    G: Gate + Sync,
+>(
+    crew: Crew<'_, R, G>,
     registry: &Registry,
     script: Script,
     machine: Machine<N>,
@@ -99,20 +163,25 @@ fn serve_machine<N: Beginning<J> + Send + Sync, J: Journal + Send, R: Threads + 
     ensures ended { OnOk result.2
         ((s : ℕ) → IsPlace result.0.script s → HasSessionEnded result.0 s) }
 {
+    let (alloc, rt) = (crew.alloc, crew.rt);
     let shared = Shared {
         alloc,
         rt,
+        gate: crew.gate,
         engine: Mutex::new(Engine::of(alloc, rt, registry, machine, journal)),
         happened: Condvar::new(),
+        making: Mutex::new(()),
         registry,
         script,
     };
-    let served = serve_all(&shared);
+    let served = serve_all(&shared, crew.workers);
     let Shared {
         alloc: _,
         rt: _,
+        gate: _,
         engine,
         happened: _,
+        making: _,
         registry: _,
         script: _,
     } = shared;
@@ -125,16 +194,19 @@ fn serve_machine<N: Beginning<J> + Send + Sync, J: Journal + Send, R: Threads + 
 }
 
 /// Serves a script over a store, whose type names what it began with, beside a journal.
-fn serve_over<N: Beginning<J> + Send + Sync, J: Journal + Send, R: Threads + Wait + Sync>(
-    alloc: Global,
-    rt: &R,
+fn serve_over<
+    N: Beginning<J> + Send + Sync,
+    J: Journal + Send,
+    R: Threads + Wait + Sync,
+    G: Gate + Sync,
+>(
+    crew: Crew<'_, R, G>,
     registry: &Registry,
     store: Store,
     script: Script,
-    retries: u16,
     journal: J,
 ) -> (J, Result<Parts, Memory>)
-    requires begins { (m : Seen) → m ≡ fresh N.logged store script retries → N.begins m journal }
+    requires begins { (m : Seen) → m ≡ fresh N.logged store script crew.retries → N.begins m journal }
     requires opening { view_of store.lazy ≡ N.opening }
     requires migration { IsOf N.registry store.migration }
     requires registry { registry.now ≡ N.registry }
@@ -145,15 +217,15 @@ fn serve_over<N: Beginning<J> + Send + Sync, J: Journal + Send, R: Threads + Wai
     ensures come { (next : Seen) × HasCome J.Answers N.opening N.begins next result.0
         × IfOk result.1 (LeavesParts next) }
 {
-    let Ok(copy) = script.copy(alloc) else {
+    let Ok(copy) = script.copy(crew.alloc) else {
         return (journal, Err(Memory));
     };
-    let made: Result<Machine<N>, Memory> = Machine::new(alloc, store, script, retries);
+    let made: Result<Machine<N>, Memory> = Machine::new(crew.alloc, store, script, crew.retries);
     let machine = match made {
         Ok(machine) => machine,
         Err(memory) => return (journal, Err(memory)),
     };
-    let (machine, journal, served) = serve_machine(alloc, rt, registry, copy, machine, journal);
+    let (machine, journal, served) = serve_machine(crew, registry, copy, machine, journal);
     match served {
         Ok(()) => (journal, Ok(machine.into_parts())),
         Err(memory) => (journal, Err(memory)),
@@ -161,26 +233,24 @@ fn serve_over<N: Beginning<J> + Send + Sync, J: Journal + Send, R: Threads + Wai
 }
 
 /// Serves a script over a store beside a journal, in which each change of the store is kept before it is made: the sessions of
-/// a phase at the same time, each on a thread of its own, one phase after the other. A group begins again `retries` times after
-/// deaths. What the machine leaves comes back, and the journal, whatever came of it.
+/// a phase at the same time, each on a thread of its own, with workers beside them, one phase after the other. What the machine
+/// leaves comes back, and the journal, whatever came of it.
 ///
 /// # Errors
 /// Where memory runs out, or too much has changed. Each thread has ended then.
-pub fn serve_script<J: Journal + Send, R: Threads + Wait + Sync>(
-    alloc: Global,
-    rt: &R,
+pub fn serve_script<J: Journal + Send, R: Threads + Wait + Sync, G: Gate + Sync>(
+    crew: Crew<'_, R, G>,
     registry: &Registry,
     store: Store,
     script: Script,
-    retries: u16,
     journal: J,
 ) -> (J, Result<Parts, Memory>)
     requires migration { IsOf registry.now store.migration }
     requires limits { IsWithinLimits script }
     requires said { AreSaid J.Says script }
     ensures keeps { (next : Seen)
-        × Keeps J.Answers (view_of store.lazy) (fresh J.ends store script retries) journal next result.0
+        × Keeps J.Answers (view_of store.lazy) (fresh J.ends store script crew.retries) journal next result.0
         × IfOk result.1 (LeavesParts next) }
 {
-    serve_over::<Brand, J, R>(alloc, rt, registry, store, script, retries, journal)
+    serve_over::<Brand, J, R, G>(crew, registry, store, script, journal)
 }

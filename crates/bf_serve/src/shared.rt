@@ -1,28 +1,35 @@
-//! What the threads of a run share, and how one of them serves a session.
+//! What the threads of a run share, and how one of them takes a turn of a session.
 
-ghost use Rattle.std.specs.Prelude.{◌≡◌, ◌≤◌, IfOk, IfSome, length};
+ghost use Rattle.std.specs.Prelude.{◌≡◌, [], IfOk, IfSome, IsTrue};
 ghost use Rattle.std.specs.Arc.{arc_value};
 ghost use Rattle.boxcar.specs.Table.{Shows};
 ghost use Rattle.bf_machine.specs.interleaving.Calls.{IsPlace};
-ghost use Rattle.bf_serve.specs.Requests.{AreNeededOf};
+ghost use Rattle.bf_bench.specs.Notes.{fresh};
+ghost use Rattle.bf_serve.specs.Seats.{Hold, IsFreshSeatOf};
+ghost use Rattle.bf_serve.specs.Steps.{IsStep};
 
-use crate::engine::{Beginning, Due, Engine};
+use crate::engine::{Beginning, Due, Engine, Phase};
 use crate::requests::{Position, Request};
+use crate::seats::{Seat, Seats};
 use crate::sections::{Asked, Ran};
 use bf_base::{Granule, Memory};
+use bf_bench::Gate;
 use bf_image::{MigrationPass, Registry};
-use bf_machine::{Journal, Lookups, record_len};
+use bf_machine::{Journal, Lookups};
 use bf_tree::Script;
 use std::alloc::Global;
 use std::sync::{Arc, Condvar, Mutex, Wait};
 
 /// A machine beside its journal under a lock, and what the threads of a run read without it.
-pub struct Shared<'r, 'g, N: Beginning<J>, J: Journal, R: Wait> {
+pub struct Shared<'r, 'g, N: Beginning<J>, J: Journal, R: Wait, G: Gate> {
     pub(crate) alloc: Global,
     pub(crate) rt: &'r R,
+    pub(crate) gate: &'r G,
     pub(crate) engine: Mutex<Engine<N, J>>,
     /// Told each time that others may go on.
     pub(crate) happened: Condvar,
+    /// Whoever makes the old rows of a migration by their values has it, so that they are made once.
+    pub(crate) making: Mutex<()>,
     pub(crate) registry: &'g Registry,
     pub(crate) script: Script,
     ghost named: { registry.now ≡ N.registry },
@@ -30,70 +37,50 @@ pub struct Shared<'r, 'g, N: Beginning<J>, J: Journal, R: Wait> {
 }
 
 /// How a turn of a session went.
-pub(crate) enum Turn {
+#[derive(Drop)]
+pub(crate) enum Step {
     /// It is to take another one.
     Again,
+    /// This statement has its reply.
+    Replied(u32),
     /// It is to wait until more has happened than this count tells.
     Wait(u64),
     /// Each of its statements has its reply.
     Ended,
+    /// These granules of this migration are to move first; and how much had happened by then.
+    Need(MigrationPass, Vec<Granule>, u64),
 }
 
-/// The number of the session at a place, counted from 1; the greatest of its type, which no session has, where it has none.
-fn number_at(place: usize) -> u32 {
-    match u32::try_from(place) {
-        Ok(before) => before.saturating_add(1),
-        Err(_) => u32::MAX,
-    }
-}
-
-impl<'r, 'g, N: Beginning<J>, J: Journal, R: Wait> Shared<'r, 'g, N, J, R> {
-    /// The phase begins whose first session stands at a place.
-    pub(crate) fn begin_phase(&self, from: usize) {
-        self.engine.lock(self.rt).begin_phase(from);
+impl<'r, 'g, N: Beginning<J>, J: Journal, R: Wait, G: Gate> Shared<'r, 'g, N, J, R, G> {
+    /// A phase begins.
+    pub(crate) fn begin_phase(&self, phase: Phase) {
+        self.engine.lock(self.rt).begin_phase(phase);
     }
 
-    /// Serves the session at a place of the present phase.
-    ///
-    /// # Errors
-    /// As [`Shared::serve`].
-    pub(crate) fn serve_at(&self, place: usize) -> Result<(), Memory> {
-        let from = self.engine.lock(self.rt).phase_from();
-        self.serve(number_at(from.saturating_add(place)))
+    /// The present phase.
+    pub(crate) fn phase(&self) -> Phase {
+        self.engine.lock(self.rt).phase()
     }
 
-    /// Serves a session: takes its turns until each of its statements has its reply.
-    ///
-    /// # Errors
-    /// Where memory runs out, or ran out for another session. Each session ends then.
-    fn serve(&self, session: u32) -> Result<(), Memory> {
-        if session == 0 || session as usize > self.script.sessions.len() {
-            return Ok(());
-        }
-        let served = self.take_turns(session);
-        if served.is_err() {
-            self.engine.lock(self.rt).run_out();
-            self.happened.notify_all();
-        }
-        served
+    /// Tells those who wait that they may go on.
+    pub(crate) fn wake(&self) {
+        self.happened.notify_all();
     }
 
-    /// Takes the turns of a session until each of its statements has its reply.
-    fn take_turns(&self, session: u32) -> Result<(), Memory>
-        requires { IsPlace self.now.script session }
-    {
-        'turns: for _ in self.rt.forever() {
-            match self.take_turn(session)? {
-                Turn::Again => continue 'turns,
-                Turn::Wait(seen) => self.wait(seen),
-                Turn::Ended => return Ok(()),
-            }
-        }
-        unreachable!()
+    /// Notes that memory ran out for an actor, so that each other one ends too.
+    pub(crate) fn run_out(&self) {
+        self.engine.lock(self.rt).run_out();
+        self.wake();
+    }
+
+    /// Notes that granules are free again, for which others may wait.
+    pub(crate) fn note_given_back(&self) {
+        self.engine.lock(self.rt).note_given_back();
+        self.wake();
     }
 
     /// Waits until more has happened than a count tells, or memory has run out.
-    fn wait(&self, seen: u64) {
+    pub(crate) fn wait_for(&self, seen: u64) {
         let engine = self
             .happened
             .wait_while(self.rt, self.engine.lock(self.rt), |engine| {
@@ -102,44 +89,66 @@ impl<'r, 'g, N: Beginning<J>, J: Journal, R: Wait> Shared<'r, 'g, N, J, R> {
         drop(engine);
     }
 
+    /// Whether the script has a session of this number.
+    pub(crate) fn is_session(&self, session: u32) -> bool
+        ensures { IsTrue result → IsPlace N.script session }
+    {
+        session > 0 && session as usize <= self.script.sessions.len()
+    }
+
+    /// Seats of an actor that serves a session, if the script has it.
+    pub(crate) fn seats_of(&self, session: u32) -> Seats<N>
+        ensures fresh { result.notes ≡ fresh }
+        ensures none { Hold result [] }
+    {
+        if self.is_session(session) {
+            return Seats::of(self.alloc, Some(session));
+        }
+        Seats::of(self.alloc, None)
+    }
+
     /// One turn of a session: its next group begins, or its open one ends, or its next statement is made ready and driven until
-    /// it has its reply, waits or dies, or what it needs has moved.
-    fn take_turn(&self, session: u32) -> Result<Turn, Memory>
+    /// it has its reply, waits or dies, or needs granules that have not moved.
+    pub(crate) fn take_turn(&self, session: u32) -> Result<Step, Memory>
         requires { IsPlace self.now.script session }
+        ensures { IfOk result (IsStep N.registry) }
     {
         let due = self
             .engine
             .lock(self.rt)
             .next(self.rt, self.registry, session)?;
         match due {
-            Due::Again => Ok(Turn::Again),
+            Due::Again => Ok(Step::Again),
             Due::Ending => {
-                self.happened.notify_all();
-                Ok(Turn::Again)
+                self.wake();
+                Ok(Step::Again)
             }
-            Due::Wait(seen) => Ok(Turn::Wait(seen)),
+            Due::Wait(seen) => Ok(Step::Wait(seen)),
             Due::Ended => {
-                self.happened.notify_all();
-                Ok(Turn::Ended)
+                self.wake();
+                Ok(Step::Ended)
             }
             Due::Statement(at, is_left) => self.drive(at, is_left),
         }
     }
 
     /// Makes a statement ready, and drives it.
-    fn drive(&self, at: Position<N>, is_left: bool) -> Result<Turn, Memory> {
+    fn drive(&self, at: Position<N>, is_left: bool) -> Result<Step, Memory>
+        ensures { IfOk result (IsStep N.registry) }
+    {
         let request = self.make_ready(at, is_left)?;
-        if let Some(turn) = self.ask_for_all(&request)? {
-            return Ok(turn);
+        if let Some(step) = self.ask_for_all(&request)? {
+            return Ok(step);
         }
-        let ran = self
+        let (ran, seen) = self
             .engine
             .lock(self.rt)
             .run_statement(self.registry, &request)?;
-        if let Ran::Need(granules) = ran {
-            self.move_need(&request, granules.as_slice())?;
+        match (ran, request.at().migration()) {
+            (Ran::Replied, _) => Ok(Step::Replied(request.at().place())),
+            (Ran::Need(granules), Some(pass)) => Ok(Step::Need(pass.copy(), granules, seen)),
+            (Ran::Need(_) | Ran::Elsewhere, _) => Ok(Step::Again),
         }
-        Ok(Turn::Again)
     }
 
     /// A statement made ready, by the old rows of the migration by their values where something of it is left to move.
@@ -156,7 +165,9 @@ impl<'r, 'g, N: Beginning<J>, J: Journal, R: Wait> Shared<'r, 'g, N, J, R> {
 
     /// Asks for the locks of a request, one after the other, each in a section of its own; and tells how the turn ends
     /// where one is not granted.
-    fn ask_for_all(&self, request: &Request<N>) -> Result<Option<Turn>, Memory> {
+    fn ask_for_all(&self, request: &Request<N>) -> Result<Option<Step>, Memory>
+        ensures { IfOk result (λ step. IfSome step (IsStep N.registry)) }
+    {
         for index in 0..request.locks().len() {
             let (asked, seen) = self
                 .engine
@@ -164,62 +175,64 @@ impl<'r, 'g, N: Beginning<J>, J: Journal, R: Wait> Shared<'r, 'g, N, J, R> {
                 .ask_for(self.registry, request, index)?;
             match asked {
                 Asked::Granted => {}
-                Asked::Waits => return Ok(Some(Turn::Wait(seen))),
+                Asked::Waits => return Ok(Some(Step::Wait(seen))),
                 Asked::Died => {
-                    self.happened.notify_all();
-                    return Ok(Some(Turn::Again));
+                    self.wake();
+                    return Ok(Some(Step::Again));
                 }
-                Asked::Elsewhere => return Ok(Some(Turn::Again)),
+                Asked::Elsewhere => return Ok(Some(Step::Again)),
             }
         }
         Ok(None)
     }
 
-    /// Moves what a request needs, by records of at most 64 granules of one unit, each in a section of its own. Where one
-    /// does not move, the rest waits for the next turn.
-    fn move_need(&self, request: &Request<N>, granules: &[Granule]) -> Result<(), Memory>
-        requires { AreNeededOf request.now granules.now }
-    {
-        let Some(pass) = request.at().migration() else {
-            return Ok(());
-        };
-        let lookups = self.lookups(pass)?;
-        let mut left = granules;
-        while !left.is_empty() {
-            let (record, later) = left.split_at(record_len(left));
-            let moved = self.engine.lock(self.rt).move_granules(
-                self.registry,
-                Some(request.at().session()),
-                pass,
-                lookups.indexes(),
-                record,
-            )?;
-            self.happened.notify_all();
-            if !moved {
-                return Ok(());
-            }
-            left = later;
-        }
-        Ok(())
-    }
-
     /// The old rows of a migration by their values: those that are shared, or else new ones, which are shared from then on.
+    /// Whoever needs them first makes them, and others wait for that.
     ///
     /// # Errors
     /// Where memory runs out.
-    fn lookups(&self, pass: &MigrationPass) -> Result<Arc<Lookups<N>, Global>, Memory>
+    pub(crate) fn lookups(&self, pass: &MigrationPass) -> Result<Arc<Lookups<N>, Global>, Memory>
         requires { Shows N.registry.migrations pass.now }
         ensures { IfOk result (λ found. (arc_value found).value ≡ pass.now.value) }
     {
-        let kept = self.engine.lock(self.rt).lookups()?;
-        if let Some(found) = kept
-            && found.are_of(self.registry, pass)
-        {
+        let making = self.making.lock(self.rt);
+        if let Some(found) = self.shared_lookups(pass)? {
             return Ok(found);
         }
         let made = Arc::new(self.alloc, Lookups::of(self.alloc, self.registry, pass)?)?;
         let shared = Arc::try_clone(&made)?;
         self.engine.lock(self.rt).share_lookups(shared);
+        drop(making);
         Ok(made)
+    }
+
+    /// The old rows of a migration by their values, if they are shared.
+    ///
+    /// # Errors
+    /// Where memory runs out.
+    fn shared_lookups(
+        &self,
+        pass: &MigrationPass,
+    ) -> Result<Option<Arc<Lookups<N>, Global>>, Memory>
+        requires { Shows N.registry.migrations pass.now }
+        ensures { IfOk result (λ found. IfSome found
+            (λ lookups. (arc_value lookups).value ≡ pass.now.value)) }
+    {
+        let kept = self.engine.lock(self.rt).lookups()?;
+        match kept {
+            Some(found) if found.are_of(self.registry, pass) => Ok(Some(found)),
+            _ => Ok(None),
+        }
+    }
+
+    /// A seat at the trackers of a migration. `None` where it is not the last one any more.
+    ///
+    /// # Errors
+    /// Where memory runs out.
+    pub(crate) fn seat(&self, pass: &MigrationPass) -> Result<Option<Seat<N>>, Memory>
+        requires { Shows N.registry.migrations pass.now }
+        ensures { IfOk result (λ seat. IfSome seat (IsFreshSeatOf pass.now.value)) }
+    {
+        self.engine.lock(self.rt).seat(self.registry, pass)
     }
 }
