@@ -12,8 +12,6 @@ pub(crate) enum Verb {
     Run,
     /// To run a script over nothing.
     Try,
-    /// To make a log and to run an example over it.
-    Demo,
 }
 
 impl Verb {
@@ -27,8 +25,6 @@ impl Verb {
             Some(Verb::Run)
         } else if word == "try" {
             Some(Verb::Try)
-        } else if word == "demo" {
-            Some(Verb::Demo)
         } else {
             None
         }

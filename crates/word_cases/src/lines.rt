@@ -19,7 +19,6 @@ fn tell_words(words: Words, told: &mut String) -> anyhow::Result<()> {
             "run {path} workers {workers} retries {retries} finish {finish} audit {audit}"
         )?,
         Words::Try => write!(told, "try")?,
-        Words::Demo { count, path } => write!(told, "demo {count} {path}")?,
     }
     Ok(())
 }
