@@ -19,11 +19,18 @@ pub data Asked : Type 0 where
   running : List ℕ → Options → Asked
   trying : Asked
 
--- the options of a line; where none is given there are 2 workers and 15 retries
+-- where no number is given
+abbrev pub usual_workers : ℕ
+usual_workers = 2
+
+abbrev pub usual_retries : ℕ
+usual_retries = 15
+
+-- the options of a line
 abbrev pub options_of : Line → Options
 options_of line = record {
-  workers = unwrap_or line.workers 2;
-  retries = unwrap_or line.retries 15;
+  workers = unwrap_or line.workers usual_workers;
+  retries = unwrap_or line.retries usual_retries;
   finish = line.finish;
   audit = line.audit;
 }
