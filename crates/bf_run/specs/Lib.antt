@@ -4,6 +4,7 @@ pub mod Crashing
 pub mod Creating
 pub mod Deaths
 pub mod Keeping
+pub mod Options
 pub mod Outcome
 pub mod Records
 pub mod Running

@@ -20,12 +20,15 @@ use Rattle.bf_run.specs.Causes.{CausesEnds}
 use Rattle.bf_run.specs.Creating.{Shelving, Makes, Refuses, CountsNone, CountsOne, Spares}
 use Rattle.bf_run.specs.Deaths.{IsRunWithDeaths}
 use Rattle.bf_run.specs.Keeping.{GivesSweep, KeepsLog}
+use Rattle.bf_run.specs.Options.{Finishes, audit_if}
 use Rattle.bf_run.specs.Running.{KeepsOthers, Opens, RefusesLog}
 use Rattle.bf_run.specs.Untold.{ReadsLog, RunsOut}
-use Rattle.bf_run.specs.Words.{Asked, creating, running, trying, asked, IfCreating, IfRunning}
+use Rattle.bf_run.specs.Words.{IfCreating, IfRunning}
+use Rattle.bf_words.specs.Words.{Asked, Options, creating, running, trying, asked}
 use Rattle.bf_machine.specs.InOrder.{IsRunInOrder}
 use Rattle.bf_machine.specs.interleaving.Machines.{EndedGroup}
 use Rattle.bf_sql.specs.Database.{Database}
+use Rattle.bf_sql.specs.History.{replayed}
 use Rattle.bf_sql.specs.migrations.Lazy.{LazyState}
 
 -- STREAM: the bytes that a source has left, or that a sink took, where they are told, and its count of faults, each
@@ -59,22 +62,22 @@ pub record IsReport (bytes text : List ℕ) : Type 0 where
 abbrev pub RunClaim : Type 1
 RunClaim = Status → Script → Database → List Entry → List EndedGroup → LazyState → Type 0
 
--- the text is the report of a run of a script, in which groups begin again so often after a death; of its begin, history, ended groups and last
--- state this holds; and each of these groups is one of the script that the report tells its cause
-pub record IsRunTold (retries : ℕ) (Holds : Database → List Entry → List EndedGroup → LazyState → Type 0) (script : Script) (text : List ℕ) : Type 0 where
+-- the text is the report of a run of a script with these options; of its begin, history, ended groups and last state this holds; and each of
+-- these groups is one of the script that the report tells its cause
+pub record IsRunTold (options : Options) (Holds : Database → List Entry → List EndedGroup → LazyState → Type 0) (script : Script) (text : List ℕ) : Type 0 where
   pub start : Database
   pub transcripts : List (List Reply)
   pub history : List Entry
   pub ended : List EndedGroup
   pub sweep : Sweep
-  pub is_run : IsRunWithDeaths retries start script ended transcripts history sweep
+  pub is_run : IsRunWithDeaths options.retries start script ended transcripts history sweep
   pub told : AreToldTheirCauses script transcripts ended
   pub holds : Holds start history ended is_run.last
-  pub report_written : text ≡ report_text transcripts history None sweep
+  pub report_written : text ≡ report_text transcripts history (audit_if options.audit (replayed script start history).1) sweep
 
 -- and the script is the one that the bytes are
-abbrev pub IsRunReport : ℕ → (Script → Database → List Entry → List EndedGroup → LazyState → Type 0) → List ℕ → List ℕ → Type 0
-IsRunReport retries Holds bytes text = (script : Script) × IsScriptText bytes (Ok script) × IsRunTold retries (Holds script) script text
+abbrev pub IsRunReport : Options → (Script → Database → List Entry → List EndedGroup → LazyState → Type 0) → List ℕ → List ℕ → Type 0
+IsRunReport options Holds bytes text = (script : Script) × IsScriptText bytes (Ok script) × IsRunTold options (Holds script) script text
 
 -- the text is a script; each one is served
 abbrev pub IsScript : List ℕ → Type 0
@@ -135,7 +138,7 @@ abbrev pub Comes : {V : Type 0} → Option Asked → Stream → List ℕ → She
 Comes None input bytes shelf status = IsUnread input × ComesOfWords status
 Comes (Some trying) input bytes shelf status = ComesOfInput input bytes status
 Comes (Some (creating path)) input bytes shelf status = IsUnread input × ComesOfFile path shelf status
-Comes (Some (running path retries)) input bytes shelf status = ComesOfRun path input bytes shelf status
+Comes (Some (running path options)) input bytes shelf status = ComesOfRun path input bytes shelf status
 
 -- a status that comes of the words, the bytes and the file, and not of a fault or of want of memory
 abbrev pub IsDetermined : Status → Type 0
@@ -166,11 +169,11 @@ abbrev pub IsDoneText : Option Asked → RunClaim → List ℕ → List ℕ → 
 IsDoneText None Holds bytes text = ⊥
 IsDoneText (Some trying) Holds bytes text = IsReport bytes text
 IsDoneText (Some (creating path)) Holds bytes text = text ≡ codes "created" ++ newline
-IsDoneText (Some (running path retries)) Holds bytes text = IsRunReport retries (Holds Done) bytes text
+IsDoneText (Some (running path options)) Holds bytes text = IsRunReport options (Holds Done) bytes text
 
 -- the text of DiskFault: the report of a run in whose course the disk failed, or that it failed before, where this holds
 abbrev pub IsFaultText : Option Asked → RunClaim → Type 0 → List ℕ → List ℕ → Type 0
-IsFaultText (Some (running path retries)) Holds Before bytes text = ((text ≡ fault_of_disk) × Before) ⊎ IsRunReport retries (Holds DiskFault) bytes text
+IsFaultText (Some (running path options)) Holds Before bytes text = ((text ≡ fault_of_disk) × Before) ⊎ IsRunReport options (Holds DiskFault) bytes text
 IsFaultText other Holds Before bytes text = text ≡ fault_of_disk
 
 -- the text of a status that has one
@@ -186,15 +189,16 @@ IsTextOf asks Holds Before bytes WriteFault text = ⊥
 IsTextOf asks Holds Before bytes Memory text = ⊥
 
 -- a run over the log that is asked for begins with a database that this opens to, a crash leaves a prefix of what it commits, the
--- log has ended groups by its causes alone, and the sweep is that of the state which its records give
+-- log has ended groups by its causes alone, the sweep is that of the state which its records give, and all has moved where that was asked for
 abbrev pub HoldsAsked : {V : Type 0} → Option Asked → Shelving V → RunClaim
-HoldsAsked (Some (running path retries)) shelf status script start history ended last =
+HoldsAsked (Some (running path options)) shelf status script start history ended last =
     Opens shelf path start × KeepsLog shelf path status script start history ended × CausesEnds shelf path status script start history ended × GivesSweep shelf path status last
+    × Finishes shelf path options.finish status last
 HoldsAsked other shelf status script start history ended last = ⊥
 
 -- and before one the log that is asked for was read at most
 abbrev pub ReadsAsked : {V : Type 0} → Option Asked → Shelving V → Type 0
-ReadsAsked (Some (running path retries)) shelf = ReadsLog shelf path
+ReadsAsked (Some (running path options)) shelf = ReadsLog shelf path
 ReadsAsked other shelf = ⊤
 
 module _ {V : Type 0} (asks : Option Asked) (input : Stream) (shelf : Shelving V) where

@@ -3,7 +3,7 @@
 ghost use Rattle.std.specs.Prelude.{◌≡◌, ℕ, List, None, Some, Err, IfOk, OnOk, ⊤};
 ghost use Rattle.bf_run.specs.Creating.{CountsOne, Makes, Refuses, Spares, shelf_of};
 ghost use Rattle.bf_run.specs.Outcome.{ComesOfFile, IsTextOf};
-ghost use Rattle.bf_run.specs.Words.{creating};
+ghost use Rattle.bf_words.specs.Words.{creating};
 
 use crate::status::{Status, disk_fault, not_empty_line};
 use bf_base::Memory;

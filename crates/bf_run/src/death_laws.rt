@@ -20,7 +20,7 @@ ghost use Rattle.bf_machine.specs.interleaving.Kept.{IsKept, fresh};
 ghost use Rattle.bf_machine.specs.interleaving.Machines.{EndedGroup, Group, Machine, transcripts_of};
 ghost use Rattle.bf_machine.specs.interleaving.Serving.{deaths_at};
 ghost use Rattle.bf_run.specs.Deaths.{HasFewInPhases, IsRunWithDeaths, MayDie, tell_no_death};
-ghost use Rattle.bf_run.specs.Words.{usual_retries};
+ghost use Rattle.bf_words.specs.Words.{usual_retries};
 
 use bf_machine::Journal;
 use std::marker::PhantomData;

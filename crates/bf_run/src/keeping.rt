@@ -13,12 +13,15 @@ ghost use Rattle.bf_store.specs.Stores.{IsOf};
 ghost use Rattle.bf_run.specs.Creating.{shelf_of};
 ghost use Rattle.bf_run.specs.Outcome.{ComesOfLog, HoldsAsked};
 ghost use Rattle.bf_run.specs.Answers.{is_ready};
+ghost use Rattle.bf_run.specs.Options.{audit_if};
 ghost use Rattle.bf_run.specs.Running.{KeepsOthers};
 ghost use Rattle.bf_text.specs.Report.{report_text};
 ghost use Rattle.bf_run.specs.Top.{IsOpenErrorTold, IsRunOverDisk, IsServed, IsTextOfRun, ServedOn};
 ghost use Rattle.bf_run.specs.Untold.{IsBrokenOffOn, IsUntold, LeavesUntold, ReadsLog};
-ghost use Rattle.bf_run.specs.Words.{running};
+ghost use Rattle.bf_run.specs.Words.{asked_options};
+ghost use Rattle.bf_words.specs.Words.{running};
 
+use crate::auditing::report_of;
 use crate::death_laws::sessions_that_have_ended_ran_with_deaths;
 use crate::journal_laws::{
     a_size_that_is_told_is_that_of_a_record, every_crash_leaves_a_prefix, what_ends_groups_is_told,
@@ -26,16 +29,15 @@ use crate::journal_laws::{
 use crate::log_journal::LogJournal;
 use crate::status::{Status, disk_fault, not_a_log_line};
 use bf_base::Memory;
+use bf_bench::OpenGate;
 use bf_disk::{Disk, DiskError, Shelf};
 use bf_image::Registry;
 use bf_log::{Log, OpenError};
 use bf_machine::Parts;
 use bf_machine::interleaving_laws::events_keep_all;
 use bf_recover::reopen;
-use bf_bench::OpenGate;
 use bf_serve::{Crew, serve_script};
 use bf_store::Store;
-use bf_text::report;
 use bf_tree::Script;
 use std::alloc::Global;
 use std::marker::PhantomData;
@@ -43,8 +45,21 @@ use std::mem::forget;
 use std::sync::Wait;
 use std::thread::Threads;
 
+/// How a script is run over a log.
+#[derive(Clone, Copy, Debug)]
+pub(crate) struct RunOptions {
+    /// How many workers move rows beside the sessions, 0 to 8.
+    pub workers: u8,
+    /// How often a group begins again after deaths, 0 to 1000.
+    pub retries: u16,
+    /// Whether all that is left of the last migration is moved at the end.
+    pub finish: bool,
+    /// Whether the rows of each table are counted at the end.
+    pub audit: bool,
+}
+
 /// The status of a run of a script over a store, whose changes a journal keeps, and its whole report. The journal comes
-/// back, whatever came of it. A group begins again `retries` times after deaths.
+/// back, whatever came of it.
 fn tell_run<D: Disk + Send, R: Threads + Wait + Sync>(
     alloc: Global,
     rt: &R,
@@ -52,7 +67,7 @@ fn tell_run<D: Disk + Send, R: Threads + Wait + Sync>(
     store: Store,
     journal: LogJournal<D>,
     script: Script,
-    retries: u16,
+    options: RunOptions,
 ) -> (LogJournal<D>, Result<(Status, Vec<u8>), Memory>)
     requires migration { IsOf registry.now store.migration }
     requires limits { IsWithinLimits script }
@@ -60,8 +75,8 @@ fn tell_run<D: Disk + Send, R: Threads + Wait + Sync>(
     requires stands { StandsOn first_state StepsTo store.lazy journal.log }
     requires ready { IsReady journal.log }
     requires alone { LeavesAlone first_state StepsTo store.lazy journal.log }
-    ensures served { IfOk result.1 (λ a. IsServed retries
-        (ServedOn (view_of store.lazy) journal.log (disk_of result.0.log)) script
+    ensures served { IfOk result.1 (λ a. IsServed (asked_options options)
+        (ServedOn options.finish (view_of store.lazy) journal.log (disk_of result.0.log)) script
         (D.fault_count (disk_of journal.log)) (D.fault_count (disk_of result.0.log))
         a.0 a.1.items) }
     ensures broken_off { OnErr result.1
@@ -81,8 +96,9 @@ fn tell_run<D: Disk + Send, R: Threads + Wait + Sync>(
         alloc,
         rt,
         gate: &OpenGate,
-        workers: 2,
-        retries,
+        workers: options.workers,
+        retries: options.retries,
+        finish: options.finish,
     };
     let (journal, served) = serve_script(crew, registry, store, script, journal);
     let parts = match served {
@@ -92,26 +108,30 @@ fn tell_run<D: Disk + Send, R: Threads + Wait + Sync>(
     if journal.is_given_up() {
         return (journal, Err(Memory));
     }
-    let told = tell_parts(alloc, parts, &journal, faults);
+    let told = tell_parts(alloc, registry, parts, options.audit, &journal, faults);
     (journal, told)
 }
 
-/// What is told of a script that was served beside a journal, by the count of its device's faults from before.
+/// What is told of a script that was served beside a journal, by the count of its device's faults from before, and with
+/// how many rows each table has where that was asked for.
 fn tell_parts<D: Disk>(
     alloc: Global,
-    parts: Parts,
+    registry: &Registry,
+    mut parts: Parts,
+    audit: bool,
     journal: &LogJournal<D>,
     faults: u64,
 ) -> Result<(Status, Vec<u8>), Memory>
+    requires migration { IsOf registry.now parts.store.migration }
     ensures text { IfOk result (λ a. a.1.items
-        ≡ report_text parts.transcripts.sessions parts.history.entries None (sweep_of parts.store.lazy.last)) }
+        ≡ report_text parts.transcripts.sessions parts.history.entries
+        (audit_if audit (view_of parts.store.lazy)) (sweep_of parts.store.lazy.last)) }
     ensures fault { IfOk result (λ a. faults < D.fault_count (disk_of journal.now.log)
         → a.0 ≡ Status.DiskFault) }
     ensures done { IfOk result (λ a. D.fault_count (disk_of journal.now.log) ≤ faults
         → (a.0 ≡ Status.Done) × (is_ready (standing_of journal.now.log) ≡ true)) }
 {
-    let sweep = parts.store.sweep();
-    let text = report(alloc, &parts.transcripts, &parts.history, None, &sweep)?;
+    let text = report_of(alloc, registry, &mut parts, audit)?;
     // The program ends behind its report, and its memory goes with it.
     forget(parts);
     if journal.faults() > faults {
@@ -131,7 +151,7 @@ fn serve_over<D: Disk + Send, R: Threads + Wait + Sync>(
     store: Store,
     log: Log<D>,
     script: Script,
-    retries: u16,
+    options: RunOptions,
 ) -> (D, Result<(Status, Vec<u8>), Memory>)
     requires migration { IsOf registry.now store.migration }
     requires limits { IsWithinLimits script }
@@ -139,14 +159,14 @@ fn serve_over<D: Disk + Send, R: Threads + Wait + Sync>(
     requires stands { StandsOn first_state StepsTo store.lazy log }
     requires ready { IsReady log }
     requires alone { LeavesAlone first_state StepsTo store.lazy log }
-    ensures served { IfOk result.1 (λ a. IsServed retries
-        (ServedOn (view_of store.lazy) log result.0) script
+    ensures served { IfOk result.1 (λ a. IsServed (asked_options options)
+        (ServedOn options.finish (view_of store.lazy) log result.0) script
         (D.fault_count (disk_of log)) (D.fault_count result.0) a.0 a.1.items) }
     ensures broken_off { OnErr result.1
         (IsBrokenOffOn (view_of store.lazy) log result.0 script) }
 {
     let journal = LogJournal::of(alloc, log);
-    let (journal, told) = tell_run(alloc, rt, registry, store, journal, script, retries);
+    let (journal, told) = tell_run(alloc, rt, registry, store, journal, script, options);
     (journal.into_disk(), told)
 }
 
@@ -168,17 +188,17 @@ fn run_with<D: Disk + Send, R: Threads + Wait + Sync>(
     registry: &Registry,
     disk: D,
     script: Script,
-    retries: u16,
+    options: RunOptions,
 ) -> (D, Result<(Status, Vec<u8>), Memory>)
     requires limits { IsWithinLimits script }
     requires sayable { IsSayableScript script }
     ensures told { IfOk result.1 (λ a. IsRunOverDisk D.seen D.may_leave D.moment D.left_since D.fault_count
-        retries script disk result.0 a.0 a.1.items) }
+        (asked_options options) script disk result.0 a.0 a.1.items) }
     ensures untold { OnErr result.1
         (IsUntold D.seen D.may_leave D.moment D.left_since script disk result.0) }
 {
     match reopen(alloc, rt, registry, disk) {
-        Ok((store, log)) => serve_over(alloc, rt, registry, store, log, script, retries),
+        Ok((store, log)) => serve_over(alloc, rt, registry, store, log, script, options),
         Err((disk, error)) => (disk, tell_open_error(alloc, error)),
     }
 }
@@ -189,33 +209,32 @@ fn run_over<D: Disk + Send, R: Threads + Wait + Sync>(
     rt: &R,
     disk: D,
     script: Script,
-    retries: u16,
+    options: RunOptions,
 ) -> (D, Result<(Status, Vec<u8>), Memory>)
     requires limits { IsWithinLimits script }
     requires sayable { IsSayableScript script }
     ensures told { IfOk result.1 (λ a. IsRunOverDisk D.seen D.may_leave D.moment D.left_since D.fault_count
-        retries script disk result.0 a.0 a.1.items) }
+        (asked_options options) script disk result.0 a.0 a.1.items) }
     ensures untold { OnErr result.1
         (IsUntold D.seen D.may_leave D.moment D.left_since script disk result.0) }
 {
     let Ok((registry, _empty)) = Registry::new(alloc, rt) else {
         return (disk, Err(Memory));
     };
-    let ran = run_with(alloc, rt, &registry, disk, script, retries);
+    let ran = run_with(alloc, rt, &registry, disk, script, options);
     // What a migration set aside goes with the program too.
     forget(registry);
     ran
 }
 
-/// The status of a script that is asked to be run over the log under a path, where a group begins again
-/// `retries` times after deaths, and its whole text. The file is put back whatever came of it.
+/// The status of a script that is asked to be run over the log under a path, and its whole text. The file is put back whatever came of it.
 pub(crate) fn run<S: Shelf, R: Threads + Wait + Sync>(
     alloc: Global,
     rt: &R,
     path: &str,
     shelf: &mut S,
     script: Script,
-    retries: u16,
+    options: RunOptions,
 ) -> Result<(Status, Vec<u8>), Memory>
 where
     S::Disk: Send,
@@ -225,7 +244,8 @@ where
     ensures causes { IfOk result (λ a. ComesOfLog path.now
         (shelf_of S.Disk.seen S.Disk.may_leave S.Disk.moment S.Disk.left_since S.Disk.fault_count S.held S.fault_count
         shelf.old shelf.new) a.0) }
-    ensures text { IfOk result (λ a. IsTextOfRun retries (HoldsAsked (Some (running path.now retries))
+    ensures text { IfOk result (λ a. IsTextOfRun (asked_options options)
+        (HoldsAsked (Some (running path.now (asked_options options)))
         (shelf_of S.Disk.seen S.Disk.may_leave S.Disk.moment S.Disk.left_since S.Disk.fault_count S.held S.fault_count
         shelf.old shelf.new))
         (ReadsLog (shelf_of S.Disk.seen S.Disk.may_leave S.Disk.moment S.Disk.left_since S.Disk.fault_count S.held
@@ -243,7 +263,7 @@ where
         Err(DiskError::Fault) => return disk_fault(alloc),
         Err(DiskError::Memory) => return Err(Memory),
     };
-    let (disk, told) = run_over(alloc, rt, disk, script, retries);
+    let (disk, told) = run_over(alloc, rt, disk, script, options);
     shelf.put_back(path, disk);
     told
 }

@@ -13,7 +13,7 @@ ghost use Rattle.bf_run.specs.Creating.{TellsFiles, shelf_of};
 ghost use Rattle.bf_run.specs.Keeping.{IsBehindPrefix, KeepsFile, OpensAs};
 ghost use Rattle.bf_run.specs.Outcome.{Comes, IsDetermined, Stream};
 ghost use Rattle.bf_run.specs.Running.{OpensTo};
-ghost use Rattle.bf_run.specs.Words.{Asked};
+ghost use Rattle.bf_words.specs.Words.{Asked};
 
 use bf_disk::{Disk, Shelf};
 

@@ -2,6 +2,7 @@
 //! a run keeps its database: each change of a store is a record of the log before it is made.
 #![tactic(auto)]
 
+mod auditing;
 mod changes;
 mod creating;
 pub mod death_laws;
@@ -11,9 +12,7 @@ pub mod laws;
 pub mod log_journal;
 pub mod status;
 pub mod top;
-pub mod words;
 
 pub use log_journal::LogJournal;
 pub use status::Status;
 pub use top::bullfrog;
-pub use words::{Words, WordsError, read_words};

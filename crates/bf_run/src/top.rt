@@ -11,12 +11,12 @@ ghost use Rattle.bf_run.specs.Outcome.{Ends, IsAnswer, fault_text};
 ghost use Rattle.bf_run.specs.Running.{KeepsOthers};
 ghost use Rattle.bf_run.specs.Top.{HasRead, IsInputAnswer, IsScriptOf, Tells};
 ghost use Rattle.bf_run.specs.Untold.{RunsOut};
-ghost use Rattle.bf_run.specs.Words.{IfCreating, IfNoPath, IfRunning, asked, running, usual_retries};
+ghost use Rattle.bf_run.specs.Words.{IfCreating, IfNoPath, IfRunning, asked_options};
+ghost use Rattle.bf_words.specs.Words.{asked, running};
 
 use crate::creating::create;
-use crate::keeping::run;
+use crate::keeping::{RunOptions, run};
 use crate::status::{Status, fault_line};
-use crate::words::{Words, WordsError, read_words};
 use bf_base::{LONGEST_SCRIPT, Memory};
 use bf_disk::Shelf;
 use bf_image::Registry;
@@ -29,6 +29,7 @@ use bf_parse::script;
 use bf_store::Store;
 use bf_text::report;
 use bf_tree::Script;
+use bf_words::{Words, WordsError, read_words};
 use std::alloc::Global;
 use std::marker::Brand;
 use std::mem::forget;
@@ -54,9 +55,6 @@ fn answer_fault(alloc: Global, fault: ScriptFault) -> Result<(Status, Vec<u8>), 
 /// How often a group begins again after a death in a run over a database that is not kept. None dies there, since
 /// sessions run one after the other.
 const NO_RETRIES: u16 = 0;
-
-/// How often a group begins again after a death, where the words give no number.
-const USUAL_RETRIES: u16 = 15;
 
 /// The report of a run of a script over the empty database, by a machine whose type names both and the registry
 /// of its migrations. The sessions are served one after the other.
@@ -167,13 +165,14 @@ fn run_input<I: Source, S: Shelf, R: Threads + Wait + Sync>(
     alloc: Global,
     rt: &R,
     path: &str,
+    options: RunOptions,
     input: &mut I,
     shelf: &mut S,
 ) -> Result<(Status, Vec<u8>), Memory>
 where
     S::Disk: Send,
     requires { (path : List ℕ) → S.taken shelf.old path ≡ None }
-    ensures answer { IfOk result (λ a. IsAnswer (Some (running path.now usual_retries))
+    ensures answer { IfOk result (λ a. IsAnswer (Some (running path.now (asked_options options)))
         (record {
           bytes = I.left input.old;
           bytes_after = I.left input.new;
@@ -191,7 +190,7 @@ where
     ensures none_taken { (path : List ℕ) → S.taken shelf.new path ≡ None }
 {
     match read_script(alloc, input)? {
-        Ok(script) => run(alloc, rt, path, shelf, script, USUAL_RETRIES),
+        Ok(script) => run(alloc, rt, path, shelf, script, options),
         Err(told) => Ok(told),
     }
 }
@@ -232,7 +231,23 @@ where
 {
     match read_words(words) {
         Ok(Words::Try) => try_input(alloc, rt, input),
-        Ok(Words::Run(path)) => run_input(alloc, rt, path, input, shelf),
+        Ok(
+            Words::Run {
+                path,
+                workers,
+                retries,
+                finish,
+                audit,
+            },
+        ) => {
+            let options = RunOptions {
+                workers,
+                retries,
+                finish,
+                audit,
+            };
+            run_input(alloc, rt, path, options, input, shelf)
+        }
         Ok(Words::Create(path)) => create(alloc, path, shelf),
         Err(WordsError::Usage) => usage(alloc),
     }

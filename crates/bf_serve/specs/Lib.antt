@@ -1,4 +1,5 @@
 pub mod Come
+pub mod Finishing
 pub mod Requests
 pub mod Seats
 pub mod Sections

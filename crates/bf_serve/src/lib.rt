@@ -6,10 +6,12 @@ mod ahead;
 pub mod bench;
 mod catalogs;
 pub mod engine;
+pub mod finishing;
 pub mod phases;
 pub mod requests;
 pub mod seats;
 mod sections;
 pub mod shared;
 
+pub use finishing::{all_granules, finish_migration};
 pub use phases::{Crew, serve_script};

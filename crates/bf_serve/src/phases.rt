@@ -1,6 +1,6 @@
 //! The phases of a script: the sessions of each run at the same time.
 
-ghost use Rattle.std.specs.Prelude.{◌≡◌, ◌<◌, ◌≤◌, ℕ, IfOk, OnOk, length};
+ghost use Rattle.std.specs.Prelude.{◌≡◌, ◌<◌, ◌≤◌, ℕ, IfOk, OnOk, length, true};
 ghost use Rattle.bf_sql.specs.migrations.Lazy.{view_of};
 ghost use Rattle.bf_store.specs.Stores.{IsOf};
 ghost use Rattle.bf_machine.specs.interleaving.Calls.{HasSessionEnded, IsPlace};
@@ -8,8 +8,10 @@ ghost use Rattle.bf_machine.specs.interleaving.Journals.{AreSaid, Keeps};
 ghost use Rattle.bf_machine.specs.interleaving.Kept.{IsWithinLimits, fresh};
 ghost use Rattle.bf_machine.specs.interleaving.Machines.{Machine as Seen};
 ghost use Rattle.bf_serve.specs.Come.{HasCome, LeavesParts};
+ghost use Rattle.bf_serve.specs.Finishing.{HasFinished};
 
 use crate::engine::{Beginning, Engine, Phase};
+use crate::finishing::finish_migration;
 use crate::seats::Seats;
 use crate::shared::Shared;
 use bf_base::Memory;
@@ -34,6 +36,8 @@ pub struct Crew<'r, R: Wait, G: Gate> {
     pub workers: u8,
     /// How often a group begins again after a death.
     pub retries: u16,
+    /// Whether all that is left of the last migration moves behind the sessions.
+    pub finish: bool,
 }
 
 /// Behind the last session of the phase that begins at a place.
@@ -162,6 +166,8 @@ fn serve_machine<
     ensures come { HasCome J.Answers N.opening N.begins result.0 result.1 }
     ensures ended { OnOk result.2
         ((s : ℕ) → IsPlace result.0.script s → HasSessionEnded result.0 s) }
+    ensures finished { OnOk result.2
+        (crew.finish ≡ true → HasFinished J.Answers result.0 result.1) }
 {
     let (alloc, rt) = (crew.alloc, crew.rt);
     let shared = Shared {
@@ -190,7 +196,11 @@ fn serve_machine<
         return (machine, journal, served);
     }
     let served = in_order(alloc, rt, registry, &mut journal, &mut machine, &[]);
-    (machine, journal, served)
+    if served.is_err() || !crew.finish {
+        return (machine, journal, served);
+    }
+    let finished = finish_migration(alloc, registry, &mut machine, &mut journal);
+    (machine, journal, finished)
 }
 
 /// Serves a script over a store, whose type names what it began with, beside a journal.
@@ -215,7 +225,9 @@ fn serve_over<
     requires logged { J.ends ≡ N.logged }
     requires said { AreSaid J.Says N.script }
     ensures come { (next : Seen) × HasCome J.Answers N.opening N.begins next result.0
-        × IfOk result.1 (LeavesParts next) }
+        × IfOk result.1 (LeavesParts next)
+        × OnOk result.1 (crew.finish ≡ true → HasFinished J.Answers next result.0) }
+    ensures migration { IfOk result.1 (λ parts. IsOf N.registry parts.store.migration) }
 {
     let Ok(copy) = script.copy(crew.alloc) else {
         return (journal, Err(Memory));
@@ -226,6 +238,8 @@ fn serve_over<
         Err(memory) => return (journal, Err(memory)),
     };
     let (machine, journal, served) = serve_machine(crew, registry, copy, machine, journal);
+    // Its contract says that the pass of the last migration is the registry's.
+    let _ = machine.migration();
     match served {
         Ok(()) => (journal, Ok(machine.into_parts())),
         Err(memory) => (journal, Err(memory)),
@@ -250,7 +264,9 @@ pub fn serve_script<J: Journal + Send, R: Threads + Wait + Sync, G: Gate + Sync>
     requires said { AreSaid J.Says script }
     ensures keeps { (next : Seen)
         × Keeps J.Answers (view_of store.lazy) (fresh J.ends store script crew.retries) journal next result.0
-        × IfOk result.1 (LeavesParts next) }
+        × IfOk result.1 (LeavesParts next)
+        × OnOk result.1 (crew.finish ≡ true → HasFinished J.Answers next result.0) }
+    ensures migration { IfOk result.1 (λ parts. IsOf registry.now parts.store.migration) }
 {
     serve_over::<Brand, J, R, G>(crew, registry, store, script, journal)
 }

@@ -2,8 +2,8 @@
 //!
 //! - `call WORDS` calls the program with these words, of which `''` is the empty one, and with the script of the lines
 //!   below. It tells what is printed, and the status.
-//! - `only S WORDS` calls it so too, and tells of what is printed the replies of session S and the last line: what the order
-//!   of sessions that run at the same time leaves as it is.
+//! - `only S WORDS` calls it so too, and tells of what is printed the replies of session S, the audit and the last line: what
+//!   the order of sessions that run at the same time leaves as it is.
 //! - `set BYTES` puts a file with these bytes under `log`.
 //! - `fail DEVICE N` lets the N-th call of a device fail: `read` or `write` of the calls to come, or `disk` of the file
 //!   to be set.
@@ -76,7 +76,7 @@ fn take(
     }
 }
 
-/// Adds what a call prints of one session, whose number stands before the words, and the last line.
+/// Adds what a call prints of one session, whose number stands before the words, the audit and the last line.
 fn call_of(
     rt: &(impl Threads + Wait + Sync),
     alloc: Global,
@@ -91,7 +91,10 @@ fn call_of(
     let mut own = String::new(alloc);
     write!(own, "{session}.")?;
     for line in printed.as_str().split("\n") {
-        if line.starts_with(own.as_str()) || line.starts_with("end ") {
+        let is_told = [own.as_str(), "audit ", "end "]
+            .iter()
+            .any(|front| line.starts_with(*front));
+        if is_told {
             writeln!(told, "{line}")?;
         }
     }

@@ -1,0 +1,14 @@
+use Rattle.std.specs.Str.Parse.{without_leading_plus}
+use Rattle.std.proofs.Common.{arith}
+use Rattle.bf_words.proofs.Numbers.{is_limited, none_limited}
+use Rattle.bf_words.proofs.number.number_within.Goals as goal
+
+pub returns-in-Ok-clause-exact : goal.returns-in-Ok-clause-exact
+returns-in-Ok-clause-exact c =
+    let parsed = c.in-Ok.ensures.value.0 in
+    is_limited c.args.most (without_leading_plus c.args.word.now) c.in-Ok.number parsed.0.0 parsed.1 c.if-number-most.true
+
+pub returns-in_default-2-clause-exact : goal.returns-in_default-2-clause-exact
+returns-in_default-2-clause-exact c =
+    none_limited c.args.most (without_leading_plus c.args.word.now)
+    (λ numeral high. c.in_default.ensures.value.0 (numeral, omega (arith, c.ranges.most.fits)))
