@@ -1,2 +1,5 @@
+pub mod Anchoring
 pub mod Crosses
+pub mod Rest
+pub mod Seated
 pub mod threads

@@ -1,5 +1,5 @@
 -- A STATEMENT THAT IS MADE READY outside the lock: where its session stood, and how it is bound in the catalog of that moment.
-use Rattle.std.specs.Prelude.{◌≡◌, ◌⊎◌, ℕ, ◌-◌, ◌<◌, ◌≤◌, Bool, List, [], length, Option, Some, None, IfSome, IsSomeAnd, IsTrue, option_map, slice_get}
+use Rattle.std.specs.Prelude.{◌≡◌, ◌≢◌, ◌⊎◌, ℕ, ◌-◌, ◌<◌, ◌≤◌, Bool, List, [], length, Option, Some, None, IfSome, IsSomeAnd, IsTrue, option_map, slice_get}
 use Rattle.std.specs.List.{All}
 use Rattle.bf_base.specs.declared.granule.Granule.{Granule}
 use Rattle.bf_base.specs.Lists.{rises}
@@ -93,7 +93,7 @@ pub record IsReady (m : Machine) (r : Request) : Type 0 where
 abbrev pub IsCoverAt : Machine → Request → Cover → Type 0
 IsCoverAt m r cover = (r.cover ≡ Some cover) ⊎ (IsSomeAnd m.lazy.last IsComplete × (cover.granules.items ≡ []))
 
--- NEEDED: granules of the last migration at the request's position, in the order of unit and place
+-- NEEDED: granules of the last migration at the request's position, in the order of unit and place, at least one
 abbrev pub AreNeededOf : Request → List Granule → Type 0
 AreNeededOf r granules =
-    IfSome r.at.migration (λ pass. AreGranules (migration_of pass.value []) granules × IsTrue (rises granule_cmp granules))
+    IfSome r.at.migration (λ pass. AreGranules (migration_of pass.value []) granules × IsTrue (rises granule_cmp granules)) × (granules ≢ [])

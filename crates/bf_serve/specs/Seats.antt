@@ -1,5 +1,6 @@
 -- SEATS: what an actor of a run was told, and its seat at the trackers of the migration that this was about.
-use Rattle.std.specs.Prelude.{◌≡◌, ◌∙◌, sym, ap, ℕ, List, [], length, Option, Some, None, IfSome, slice_get}
+use Rattle.std.proofs.Common.{◌∙◌, sym, ap}
+use Rattle.std.specs.Prelude.{◌≡◌, ℕ, List, [], length, Option, Some, None, IfSome, slice_get}
 use Rattle.boxcar.specs.Table.{Shows}
 use Rattle.bf_base.specs.declared.granule.Granule.{Granule}
 use Rattle.bf_bench.specs.Notes.{Notes}

@@ -15,7 +15,7 @@ use Rattle.bf_serve.specs.declared.shared.Step.TheVariants.{Need}
 -- granules that are to move first are some of a migration of the registry, in the order of unit and place
 pub record AreToMove (registry : Registry) (pass : Where Migration) (granules : List Granule) : Type 0 where
   pub shown : Shows registry.migrations pass
-  pub granules : AreGranules (migration_of pass.value []) granules
+  pub each : AreGranules (migration_of pass.value []) granules
   pub ordered : IsTrue (rises granule_cmp granules)
   pub some : granules ≢ []
 

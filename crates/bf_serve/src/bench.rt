@@ -1,6 +1,6 @@
 //! What the loops of sessions and workers ask for, over what the threads of a run share.
 
-ghost use Rattle.std.specs.Prelude.{◌≡◌, [], IfSome, None, Ok, OnErr, true};
+ghost use Rattle.std.specs.Prelude.{◌≡◌, [], IfOk, IfSome, None, OnErr, true};
 ghost use Rattle.boxcar.specs.Table.{Shows};
 ghost use Rattle.bf_bench.specs.Notes.{noting};
 ghost use Rattle.bf_machine.specs.interleaving.Calls.{IsPlace};
@@ -27,7 +27,7 @@ impl<'r, 'g, N: Beginning<J>, J: Journal, R: Wait, G: Gate> Shared<'r, 'g, N, J,
     fn take_seat(&self, seats: &mut Seats<N>, pass: &MigrationPass) -> Result<bool, Memory>
         requires pass { Shows N.registry.migrations pass.now }
         requires idle { Hold seats.old [] }
-        ensures seated { result ≡ Ok true → IsSeatOf seats.new.seat pass.now.value }
+        ensures seated { IfOk result (λ is. is ≡ true → IsSeatOf seats.new.seat pass.now.value) }
         ensures notes { noting seats.new.notes None [] ≡ noting seats.old.notes None [] }
         ensures kept { OnErr result (seats.new ≡ seats.old) }
         ensures spent { Hold seats.new [] }

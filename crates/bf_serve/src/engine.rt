@@ -208,32 +208,20 @@ impl<N: Beginning<J>, J: Journal> Engine<N, J> {
         requires pass { Shows N.registry.migrations pass.now }
         ensures { IfOk result (λ seat. IfSome seat (IsFreshSeatOf pass.now.value)) }
     {
-        let last = self.machine.migration();
+        let Engine {
+            alloc,
+            machine,
+            seat,
+            ..
+        } = self;
+        let last = machine.migration();
         if !is_one(registry, last.as_ref(), pass) {
             return Ok(None);
         }
-        let mut first = self.first_seat(registry, pass)?;
-        let seat = first.split(self.alloc);
-        self.seat = Some(first);
-        Ok(Some(seat?))
-    }
-
-    /// Takes out the first seat at the trackers of the last migration, which are made where it has none yet.
-    ///
-    /// # Errors
-    /// Where memory runs out.
-    fn first_seat(&mut self, registry: &Registry, pass: &MigrationPass) -> Result<Seat<N>, Memory>
-        requires registry { registry.now ≡ N.registry }
-        requires pass { Shows N.registry.migrations pass.now }
-        ensures { IfOk result (λ seat. seat.trackers.pass.value ≡ pass.now.value) }
-    {
-        if let Some(seat) = self.seat.take()
-            && seat.is_of(registry, pass)
-        {
-            return Ok(seat);
-        }
-        let done = self.machine.done(self.alloc)?;
-        Seat::first(self.alloc, registry, pass, done.as_slice())
+        let mut first = first_seat(*alloc, registry, machine, seat.take(), pass)?;
+        let split = first.split(*alloc);
+        *seat = Some(first);
+        Ok(Some(split?))
     }
 
     /// What a worker is to do next, and at most so many anchors.
@@ -481,6 +469,33 @@ impl<N: Beginning<J>, J: Journal> Engine<N, J> {
     {
         (self.machine, self.journal)
     }
+}
+
+/// The first seat at the trackers of a machine's last migration: the one that was kept, or that of new trackers by what has moved.
+///
+/// # Errors
+/// Where memory runs out.
+fn first_seat<N: Opened>(
+    alloc: Global,
+    registry: &Registry,
+    machine: &Machine<N>,
+    kept: Option<Seat<N>>,
+    pass: &MigrationPass,
+) -> Result<Seat<N>, Memory>
+    requires registry { registry.now ≡ N.registry }
+    requires pass { Shows N.registry.migrations pass.now }
+    requires last { option_map (λ pass. pass.value) machine.now.pass ≡ Some pass.now.value }
+    ensures { IfOk result (λ seat. seat.trackers.pass.value ≡ pass.now.value) }
+{
+    if let Some(seat) = kept
+        && seat.is_of(registry, pass)
+    {
+        return Ok(seat);
+    }
+    // Its contract says what a machine keeps.
+    let _ = machine.script();
+    let done = machine.done(alloc)?;
+    Seat::first(alloc, registry, pass, done.as_slice())
 }
 
 /// Whether a pass is of the last migration, if there is one.

@@ -74,7 +74,8 @@ fn move_in_records<N: Opened, J: Journal>(
         match machine.moved(registry, journal, pass, indexes, record) {
             Ok(_) => left = later,
             Err(MoveError::Ended(_)) => return Ok(()),
-            Err(_) => return Err(Memory),
+            Err(MoveError::Old(_)) => return Err(Memory),
+            Err(MoveError::Memory) => return Err(Memory),
         }
     }
     Ok(())
@@ -102,6 +103,8 @@ pub fn finish_migration<N: Opened, J: Journal>(
     ensures ended { (s : ℕ) → IsPlace machine.old.script s → HasSessionEnded machine.old s
         → HasSessionEnded machine.new s }
 {
+    // Its contract says what a machine keeps.
+    let _ = machine.script();
     let Some(pass) = machine.migration() else {
         return Ok(());
     };

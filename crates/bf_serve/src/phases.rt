@@ -167,7 +167,7 @@ fn serve_machine<
     ensures ended { OnOk result.2
         ((s : ℕ) → IsPlace result.0.script s → HasSessionEnded result.0 s) }
     ensures finished { OnOk result.2
-        (crew.finish ≡ true → HasFinished J.Answers result.0 result.1) }
+        (crew.entry.finish ≡ true → HasFinished J.Answers result.0 result.1) }
 {
     let (alloc, rt) = (crew.alloc, crew.rt);
     let shared = Shared {
@@ -226,7 +226,7 @@ fn serve_over<
     requires said { AreSaid J.Says N.script }
     ensures come { (next : Seen) × HasCome J.Answers N.opening N.begins next result.0
         × IfOk result.1 (LeavesParts next)
-        × OnOk result.1 (crew.finish ≡ true → HasFinished J.Answers next result.0) }
+        × OnOk result.1 (crew.entry.finish ≡ true → HasFinished J.Answers next result.0) }
     ensures migration { IfOk result.1 (λ parts. IsOf N.registry parts.store.migration) }
 {
     let Ok(copy) = script.copy(crew.alloc) else {
@@ -263,9 +263,9 @@ pub fn serve_script<J: Journal + Send, R: Threads + Wait + Sync, G: Gate + Sync>
     requires limits { IsWithinLimits script }
     requires said { AreSaid J.Says script }
     ensures keeps { (next : Seen)
-        × Keeps J.Answers (view_of store.lazy) (fresh J.ends store script crew.retries) journal next result.0
+        × Keeps J.Answers (view_of store.lazy) (fresh J.ends store script crew.entry.retries) journal next result.0
         × IfOk result.1 (LeavesParts next)
-        × OnOk result.1 (crew.finish ≡ true → HasFinished J.Answers next result.0) }
+        × OnOk result.1 (crew.entry.finish ≡ true → HasFinished J.Answers next result.0) }
     ensures migration { IfOk result.1 (λ parts. IsOf registry.now parts.store.migration) }
 {
     serve_over::<Brand, J, R, G>(crew, registry, store, script, journal)

@@ -7,9 +7,7 @@ ghost use Rattle.bf_bench.specs.Notes.{HasRoom, Stands, asked_one, fresh, most_g
 ghost use Rattle.bf_machine.specs.interleaving.Calls.{IsPlace};
 ghost use Rattle.bf_store.specs.States.{AreGranules};
 ghost use Rattle.bf_store.specs.Stores.{migration_of};
-ghost use Rattle.bf_trackers.specs.Holding.{AreFinished};
 ghost use Rattle.bf_trackers.specs.Migrations.{IsGranuleOf};
-ghost use Rattle.bf_trackers.specs.declared.seats.Ending.TheVariants.{Finished, GivenBack};
 ghost use Rattle.bf_serve.specs.Seats.{AreOfSeat, Hold, HoldAtSeat, IsSeat, IsSeatOf};
 
 use bf_base::{Granule, Memory};
@@ -35,13 +33,13 @@ pub struct Seat<N: Opened> {
 impl<N: Opened> Model for Seat<N> {
     ghost use Rattle.std.specs.Arc.{arc_value};
     ghost use Rattle.std.specs.Coded.{codes};
-    ghost use Rattle.bf_trackers.specs.contracts.seats.TrackerSeats as claims;
-    ghost use Rattle.bf_trackers.specs.contracts.trackers.Trackers as trackers;
+    ghost use Rattle.bf_trackers.specs.contracts.seats.TrackerSeats as tracker_seats;
+    ghost use Rattle.bf_trackers.specs.contracts.trackers.Trackers as tracker_rows;
     ghost use Rattle.bf_serve.specs.Seats.{IsSeat, Seat as Seen};
 
     ghost Value = { Seen };
 
-    ghost coded = { Prim.hlevel (codes, trackers.the_row.coded, claims.the_row.coded) };
+    ghost coded = { Prim.hlevel (codes, tracker_rows.the_row.coded, tracker_seats.the_row.coded) };
 
     ghost view = { λ s. record { trackers = arc_value s.trackers; claims = s.claims } };
 
@@ -72,14 +70,14 @@ pub struct Seats<N: Opened> {
 impl<N: Opened> Model for Seats<N> {
     ghost use Rattle.std.specs.Coded.{codes};
     ghost use Rattle.std.specs.Prelude.{◌≡◌, length};
-    ghost use Rattle.bf_base.specs.contracts.granule.Granule as granule;
-    ghost use Rattle.bf_trackers.specs.contracts.seats.TrackerSeats as claims;
-    ghost use Rattle.bf_trackers.specs.contracts.trackers.Trackers as trackers;
+    ghost use Rattle.bf_base.specs.contracts.granule.Granule as granule_row;
+    ghost use Rattle.bf_trackers.specs.contracts.seats.TrackerSeats as tracker_seats;
+    ghost use Rattle.bf_trackers.specs.contracts.trackers.Trackers as tracker_rows;
     ghost use Rattle.bf_serve.specs.Seats.{AreSeats, Seats as Seen};
 
     ghost Value = { Seen };
 
-    ghost coded = { Prim.hlevel (codes, granule.the_row.coded, trackers.the_row.coded, claims.the_row.coded) };
+    ghost coded = { Prim.hlevel (codes, granule_row.the_row.coded, tracker_rows.the_row.coded, tracker_seats.the_row.coded) };
 
     ghost view = { λ s. record {
       session = s.session;
@@ -187,7 +185,6 @@ impl<N: Opened> Seat<N> {
         requires { HoldAtSeat self.old wip }
         ensures trackers { self.new.trackers ≡ self.old.trackers }
         ensures spent { HoldAtSeat self.new [] }
-        ensures finished { AreFinished Finished wip self.old.claims self.new.claims }
     {
         self.trackers.finish_all(rt, &mut self.claims, wip);
     }
@@ -197,7 +194,6 @@ impl<N: Opened> Seat<N> {
         requires { HoldAtSeat self.old wip }
         ensures trackers { self.new.trackers ≡ self.old.trackers }
         ensures spent { HoldAtSeat self.new [] }
-        ensures given_back { AreFinished GivenBack wip self.old.claims self.new.claims }
     {
         self.trackers.give_back_all(rt, &mut self.claims, wip);
     }

@@ -1,5 +1,5 @@
 -- What a statement needs that was made ready, by the pass of the machine's last migration.
-use Rattle.std.proofs.Common.{◌≡◌, List, [], Option, Some, None, refl, sym, ap, subst, ◌∙◌, inl, inr}
+use Rattle.std.proofs.Common.{◌≡◌, ◌≢◌, List, [], Option, Some, None, refl, sym, ap, subst, ◌∙◌, inl, inr}
 use Rattle.std.specs.Prelude.{IfSome, IsTrue}
 use Rattle.std.specs.Global.{Vec}
 use Rattle.std.specs.Option.{option_map}
@@ -63,10 +63,16 @@ module _ {start : Database} (registry : Registry) (m : Machine) (kept : IsKept s
       prepared_number (without_rows r.at.catalog.value) r.at.in_block is.prepared.statement r.bound is.prepared.prepared_so
       ∙ ap (λ (c : Catalog). c.number) ready.stands.catalog
 
+  some : (granules : Vec Granule) → IsStep m pass r.bound cover.granules.items (Need granules) → granules.items ≢ []
+  some granules step = elim step as (λ _. granules.items ≢ []) [
+    | inl present ↦ λ none. present.1.1 (sym present.1.0 ∙ none)
+    | inr stale ↦ absurd (let e = stale.1 in cc)
+  ]
+
   pub needed : (granules : Vec Granule) → IsStep m pass r.bound cover.granules.items (Need granules) → AreNeededOf r granules.items
   needed granules step =
       let told = need_told m kept r.bound cover pass own enough number granules step in
       let are = of_pass m.lazy.last m.pass granules.items kept.store_valid.by_pass (may_move m kept r.bound cover pass own enough number granules.items told) in
       let rise : IsTrue (rises granule_cmp granules.items) = subst (λ (gs : List Granule). IsTrue (rises granule_cmp gs)) (sym told) (left_rises m.lazy.last r.bound.action) in
-      both {P = λ v. AreGranules (migration_of v []) granules.items} {Q = λ v. AreGranules (migration_of v []) granules.items × IsTrue (rises granule_cmp granules.items)}
-      r.at.migration m.pass ready.migration are (λ v so. (so, rise))
+      (both {P = λ v. AreGranules (migration_of v []) granules.items} {Q = λ v. AreGranules (migration_of v []) granules.items × IsTrue (rises granule_cmp granules.items)}
+      r.at.migration m.pass ready.migration are (λ v so. (so, rise)), some granules step)
