@@ -12,6 +12,8 @@ pub struct Turnstile {
     aborts: u32,
     /// How often it was asked of claims.
     asked: AtomicU32,
+    /// The sum of the granules that it was asked of.
+    granules: AtomicU32,
     /// The sum of the statements that it was told of.
     replied: AtomicU32,
     /// How often it was asked for another actor or migration.
@@ -24,6 +26,7 @@ impl Turnstile {
             actor,
             aborts,
             asked: AtomicU32::new(0),
+            granules: AtomicU32::new(0),
             replied: AtomicU32::new(0),
             strange: AtomicU32::new(0),
         }
@@ -35,10 +38,12 @@ impl Turnstile {
         }
     }
 
-    /// What it was asked and told, and how often it was asked wrongly.
-    pub fn told(&self) -> (u32, u32, u32) {
+    /// How often it was asked of claims, of how many granules in all, what it was told of
+    /// statements, and how often it was asked wrongly.
+    pub fn told(&self) -> (u32, u32, u32, u32) {
         (
             self.asked.load(Ordering::SeqCst),
+            self.granules.load(Ordering::SeqCst),
             self.replied.load(Ordering::SeqCst),
             self.strange.load(Ordering::SeqCst),
         )
@@ -48,8 +53,13 @@ impl Turnstile {
 impl Gate for Turnstile {
     fn ask(&self, point: Point) -> Choice {
         match point {
-            Point::Claimed { actor, migration } => {
+            Point::Claimed {
+                actor,
+                migration,
+                granules,
+            } => {
                 self.expect(actor == self.actor && migration == MIGRATION);
+                self.granules.fetch_add(granules, Ordering::SeqCst);
                 if self.asked.fetch_add(1, Ordering::SeqCst) < self.aborts {
                     Choice::Abort
                 } else {

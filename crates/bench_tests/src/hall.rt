@@ -4,9 +4,9 @@ ghost use Rattle.std.specs.Prelude.{◌≡◌, ◌<◌, ◌≤◌, [], Some, Non
 ghost use Rattle.std.specs.List.{AllByRecursion};
 ghost use Rattle.bf_bench.specs.Notes.{fresh, noting};
 ghost use Rattle.bf_drive.specs.Lists.{AreDifferent};
-ghost use Rattle.bench_tests.specs.Seen.{notes_in, held_with};
+ghost use Rattle.bench_tests.specs.Seen.{IsTaken, notes_in, held_with};
 
-use crate::rows::Rows;
+use crate::rows::{Rows, position_of};
 use bf_base::{Granule, Memory, Place, Sequence};
 use bf_bench::{Bench, Carried, Left, Taken, Turn};
 use bf_drive::Wip;
@@ -19,8 +19,24 @@ pub const NEVER: u32 = u32::MAX;
 /// The migration whose rows there are.
 pub const MIGRATION: u32 = 7;
 
-/// A bench. Its session begins, is served one statement after the other, waits once and has ended; its
-/// worker waits once where nothing is left, and is told then that the phase has ended.
+/// How often a row is asked for at most before it is busy no longer, so that a loop which never
+/// waits ends too, with other counts.
+const MOST_ASKED: u32 = 9;
+
+/// Which rows are told as busy.
+#[derive(Clone, Copy)]
+pub enum Busy {
+    Never,
+    /// Each third one, the first so many times that it is asked for.
+    Thirds(u32),
+    /// Each third one at its claim; by the second look another actor has moved it.
+    ThirdsElsewhere,
+    /// All, until so many waits.
+    UntilWaits(u64),
+}
+
+/// A bench. Its session begins, is served one statement after the other, waits once and has ended;
+/// its worker waits once where nothing is left, and is told then that the phase has ended.
 #[derive(Drop)]
 pub struct Hall {
     pub alloc: Global,
@@ -29,14 +45,13 @@ pub struct Hall {
     pub rows: u32,
     /// The first row of the second unit.
     pub second_unit: u32,
-    /// Whether each third row is busy at its first claim.
-    pub is_busy: bool,
+    pub busy: Busy,
     /// The number of the call that has no memory.
     pub fails_at: u32,
     /// The number of the move that is refused.
     pub refuses_at: u32,
-    /// The sum of what was waited for.
-    pub waited: AtomicU64,
+    waits: AtomicU64,
+    waited: AtomicU64,
 }
 
 /// The seats of an actor.
@@ -79,11 +94,20 @@ impl Hall {
             needs,
             rows,
             second_unit,
-            is_busy: false,
+            busy: Busy::Never,
             fails_at: NEVER,
             refuses_at: NEVER,
+            waits: AtomicU64::new(0),
             waited: AtomicU64::new(0),
         }
+    }
+
+    /// How often it was waited, and the sum of what was waited for.
+    pub fn waited(&self) -> (u64, u64) {
+        (
+            self.waits.load(Ordering::SeqCst),
+            self.waited.load(Ordering::SeqCst),
+        )
     }
 
     /// Seats of an actor that was told nothing yet.
@@ -106,6 +130,34 @@ impl Hall {
 
     fn unit_of(&self, position: u32) -> u8 {
         if position < self.second_unit { 0 } else { 1 }
+    }
+
+    // Whether a row is told as busy that was asked for so often before.
+    fn is_busy(&self, is_third: bool, before: u32) -> bool {
+        match self.busy {
+            Busy::Never => false,
+            Busy::Thirds(times) => is_third && before < times,
+            Busy::ThirdsElsewhere => is_third && before == 0,
+            Busy::UntilWaits(waits) => {
+                before < MOST_ASKED && self.waits.load(Ordering::SeqCst) < waits
+            }
+        }
+    }
+
+    // What is answered where a row is asked for.
+    fn ask(&self, rows: &mut Rows, granule: &Granule) -> Result<Taken, Memory>
+        ensures { IfOk result (IsTaken granule.now) }
+    {
+        let before = rows.ask(granule);
+        let is_third = position_of(granule) % 3 == 2;
+        if self.is_busy(is_third, before) {
+            return Ok(Taken::Busy);
+        }
+        if is_third && matches!(self.busy, Busy::ThirdsElsewhere) {
+            rows.pass(granule);
+            return Ok(Taken::Done);
+        }
+        rows.take(self.alloc, granule)
     }
 
     // The rows that are wanted and not done.
@@ -226,7 +278,11 @@ impl Bench for Hall {
         if let Some(need) = self.needs.get(stage - 1) {
             let needed = self.needed(&seats.rows, *need)?;
             if !needed.is_empty() {
-                return Ok(Turn::Need(MIGRATION, seats.note(self.alloc, needed)?));
+                return Ok(Turn::Need {
+                    migration: MIGRATION,
+                    granules: seats.note(self.alloc, needed)?,
+                    seen: seats.rows.counts.happened(),
+                });
             }
             seats.pass(self.alloc);
             seats.given_back = 0;
@@ -246,7 +302,11 @@ impl Bench for Hall {
         for unit in 0..2 {
             let left = self.left_of(&seats.rows, unit, most)?;
             if !left.is_empty() {
-                return Ok(Left::Granules(MIGRATION, seats.note(self.alloc, left)?));
+                return Ok(Left::Granules {
+                    migration: MIGRATION,
+                    granules: seats.note(self.alloc, left)?,
+                    seen: seats.rows.counts.happened(),
+                });
             }
         }
         let stage = seats.stage;
@@ -261,11 +321,7 @@ impl Bench for Hall {
     fn claim(&self, seats: &mut Seats, granule: &Granule) -> Result<Taken, Memory> {
         seats.rows.call(self.fails_at)?;
         seats.rows.counts.claims = seats.rows.counts.claims.saturating_add(1);
-        let taken = if self.is_busy && seats.rows.is_busy_once(granule) {
-            Taken::Busy
-        } else {
-            seats.rows.take(self.alloc, granule)?
-        };
+        let taken = self.ask(&mut seats.rows, granule)?;
         seats.hold(&taken);
         let _noted = seats.noted.len();
         seats.asked += 1;
@@ -275,7 +331,7 @@ impl Bench for Hall {
     fn claim_again(&self, seats: &mut Seats, granule: &Granule) -> Result<Taken, Memory> {
         seats.rows.call(self.fails_at)?;
         seats.rows.counts.again = seats.rows.counts.again.saturating_add(1);
-        let taken = seats.rows.take(self.alloc, granule)?;
+        let taken = self.ask(&mut seats.rows, granule)?;
         seats.hold(&taken);
         Ok(taken)
     }
@@ -303,6 +359,7 @@ impl Bench for Hall {
     }
 
     fn wait(&self, seen_before: u64) {
+        self.waits.fetch_add(1, Ordering::SeqCst);
         self.waited.fetch_add(seen_before, Ordering::SeqCst);
     }
 }

@@ -22,35 +22,23 @@ pub struct Counts {
     pub most_held: u32,
 }
 
+impl Counts {
+    /// How much has happened: each turn and each look counts, from 100 on.
+    pub fn happened(&self) -> u64 {
+        100 + self.turns as u64 + self.looks as u64
+    }
+}
+
 /// Rows by their positions, none of which is done at first.
 #[derive(Drop)]
 pub struct Rows {
     stripe: Stripe,
     done: Vec<bool>,
-    were_busy: Vec<bool>,
+    /// How often each was asked for.
+    asked: Vec<u32>,
     /// How many calls there were that may answer that memory ran out.
     calls: u32,
     pub counts: Counts,
-}
-
-fn all_false(alloc: Global, rows: u32) -> Result<Vec<bool>, Memory> {
-    let mut flags = Vec::new(alloc);
-    for _ in 0..rows {
-        flags.push(false)?;
-    }
-    Ok(flags)
-}
-
-// Sets a flag, and answers how it was.
-fn set(flags: &mut Vec<bool>, index: usize) -> bool {
-    match flags.get_mut(index) {
-        Some(flag) => {
-            let was = *flag;
-            *flag = true;
-            was
-        }
-        None => true,
-    }
 }
 
 // The key by which a stripe names a place.
@@ -67,7 +55,8 @@ fn key_at(alloc: Global, place: &Place) -> Result<Key, Memory>
     }
 }
 
-fn position_of(granule: &Granule) -> usize {
+/// The position of a row.
+pub fn position_of(granule: &Granule) -> usize {
     match &granule.place {
         Place::Row(position) => *position as usize,
         Place::Group(_) => 0,
@@ -78,8 +67,8 @@ impl Rows {
     pub fn new(alloc: Global, rows: u32) -> Result<Rows, Memory> {
         Ok(Rows {
             stripe: Stripe::of_done(alloc, &[])?,
-            done: all_false(alloc, rows)?,
-            were_busy: all_false(alloc, rows)?,
+            done: vec![in alloc; false; rows as usize]?,
+            asked: vec![in alloc; 0; rows as usize]?,
             calls: 0,
             counts: Counts {
                 turns: 0,
@@ -115,10 +104,23 @@ impl Rows {
         Ok(())
     }
 
-    /// Whether a row is to be told as busy now, as each third one is at its first claim.
-    pub fn is_busy_once(&mut self, granule: &Granule) -> bool {
-        let position = position_of(granule);
-        position % 3 == 2 && !set(&mut self.were_busy, position)
+    /// How often a row was asked for before, this time not counted.
+    pub fn ask(&mut self, granule: &Granule) -> u32 {
+        match self.asked.get_mut(position_of(granule)) {
+            Some(number) => {
+                let before = *number;
+                *number = before.saturating_add(1);
+                before
+            }
+            None => 0,
+        }
+    }
+
+    /// Notes that a row is done.
+    pub fn pass(&mut self, granule: &Granule) {
+        if let Some(is_done) = self.done.get_mut(position_of(granule)) {
+            *is_done = true;
+        }
     }
 
     pub fn take(&mut self, alloc: Global, granule: &Granule) -> Result<Taken, Memory>
@@ -149,7 +151,7 @@ impl Rows {
         };
         if is_moved {
             self.stripe.finish(claim);
-            set(&mut self.done, position_of(granule));
+            self.pass(granule);
         } else {
             self.stripe.give_back(claim);
         }
