@@ -1,10 +1,10 @@
 // A bench in memory, on one thread: what an actor is told and does stands in its seats.
 
-ghost use Rattle.std.specs.Prelude.{◌≡◌, ◌<◌, ◌≤◌, [], Some, None, IfOk, IfSome, OnErr, length};
+ghost use Rattle.std.specs.Prelude.{◌≡◌, ◌<◌, ◌≤◌, [], Some, None, IfOk, IfSome, OnErr, OnOk, false, length};
 ghost use Rattle.std.specs.List.{AllByRecursion};
-ghost use Rattle.bf_bench.specs.Notes.{fresh, noting};
+ghost use Rattle.bf_bench.specs.Notes.{AreOfOneUnit, fresh, noting};
 ghost use Rattle.bf_drive.specs.Lists.{AreDifferent};
-ghost use Rattle.bench_tests.specs.Seen.{IsTaken, notes_in, held_with};
+ghost use Rattle.bench_tests.specs.Seen.{IsTaken, MayAdd, notes_in, held_with};
 
 use crate::rows::{Rows, position_of};
 use bf_base::{Granule, Memory, Place, Sequence};
@@ -58,7 +58,7 @@ pub struct Hall {
 #[derive(Drop)]
 pub struct Seats {
     pub rows: Rows,
-    stage: usize,
+    stage: u32,
     migration: Option<u32>,
     noted: Sequence<Granule>,
     asked: usize,
@@ -78,7 +78,9 @@ struct Wanted {
 }
 
 impl Wanted {
-    fn lacks(&self, unit: u8) -> bool {
+    fn lacks(&self, unit: u8) -> bool
+        ensures { result ≡ false → IfSome self.now.unit (λ wanted. unit ≡ wanted) }
+    {
         match self.unit {
             Some(wanted) => wanted != unit,
             None => false,
@@ -169,16 +171,29 @@ impl Hall {
     {
         let mut granules = Vec::new(self.alloc);
         for position in wanted.from..wanted.to {
-            let unit = self.unit_of(position);
-            if granules.len() == wanted.most || rows.is_done(position) || wanted.lacks(unit) {
-                continue;
-            }
-            granules.push(Granule {
-                unit,
-                place: Place::Row(position),
-            })?;
+            self.add(&mut granules, rows, wanted, position)?;
         }
         Ok(granules)
+    }
+
+    // Appends a row where it is wanted and not done.
+    fn add(
+        &self,
+        granules: &mut Vec<Granule>,
+        rows: &Rows,
+        wanted: Wanted,
+        position: u32,
+    ) -> Result<(), Memory>
+        ensures { OnOk result (MayAdd position wanted.most wanted.unit
+            granules.old.items granules.new.items) }
+    {
+        let unit = self.unit_of(position);
+        if granules.len() >= wanted.most || rows.is_done(position) || wanted.lacks(unit) {
+            return Ok(());
+        }
+        let place = Place::Row(position);
+        granules.push(Granule { unit, place })?;
+        Ok(())
     }
 
     // What a statement needs that is not done.
@@ -213,6 +228,20 @@ impl Hall {
                 most: most as usize,
             },
         )
+    }
+
+    // What is not done of the first unit in which anything is left.
+    fn first_left(&self, rows: &Rows, most: u32) -> Result<Vec<Granule>, Memory>
+        ensures different { IfOk result (λ granules. AreDifferent granules.items) }
+        ensures few { IfOk result (λ granules. length granules.items ≤ most) }
+        ensures unit { IfOk result (λ granules. AreOfOneUnit granules.items) }
+    {
+        let first = self.left_of(rows, 0, most)?;
+        if !first.is_empty() {
+            return Ok(first);
+        }
+        let second = self.left_of(rows, 1, most)?;
+        Ok(second)
     }
 }
 
@@ -257,7 +286,7 @@ impl Seats {
 
 impl Bench for Hall {
     ghost use Rattle.bench_tests.specs.Seen.{notes_in, HoldsSoMany};
-    ghost use Rattle.std.specs.Prelude.{◌∙◌, sym};
+    ghost use Rattle.std.proofs.Common.{◌∙◌, sym};
 
     type Seats = Seats;
 
@@ -275,7 +304,7 @@ impl Bench for Hall {
             seats.pass(self.alloc);
             return Ok(Turn::Again);
         }
-        if let Some(need) = self.needs.get(stage - 1) {
+        if let Some(need) = self.needs.get(stage as usize - 1) {
             let needed = self.needed(&seats.rows, *need)?;
             if !needed.is_empty() {
                 return Ok(Turn::Need {
@@ -286,10 +315,10 @@ impl Bench for Hall {
             }
             seats.pass(self.alloc);
             seats.given_back = 0;
-            return Ok(Turn::Replied(stage as u32));
+            return Ok(Turn::Replied(stage));
         }
         seats.pass(self.alloc);
-        if stage == self.needs.len() + 1 {
+        if stage as usize == self.needs.len() + 1 {
             return Ok(Turn::Wait(5));
         }
         seats.session_ended = Some(session);
@@ -299,15 +328,13 @@ impl Bench for Hall {
     fn left(&self, seats: &mut Seats, most: u32) -> Result<Left, Memory> {
         seats.rows.call(self.fails_at)?;
         seats.rows.counts.looks = seats.rows.counts.looks.saturating_add(1);
-        for unit in 0..2 {
-            let left = self.left_of(&seats.rows, unit, most)?;
-            if !left.is_empty() {
-                return Ok(Left::Granules {
-                    migration: MIGRATION,
-                    granules: seats.note(self.alloc, left)?,
-                    seen: seats.rows.counts.happened(),
-                });
-            }
+        let left = self.first_left(&seats.rows, most)?;
+        if !left.is_empty() {
+            return Ok(Left::Granules {
+                migration: MIGRATION,
+                granules: seats.note(self.alloc, left)?,
+                seen: seats.rows.counts.happened(),
+            });
         }
         let stage = seats.stage;
         seats.pass(self.alloc);
