@@ -31,6 +31,8 @@ pub enum Busy {
     Thirds(u32),
     /// Each third one at its claim; by the second look another actor has moved it.
     ThirdsElsewhere,
+    /// Each, as often as its position tells.
+    ByPosition,
     /// All, until so many waits.
     UntilWaits(u64),
 }
@@ -135,11 +137,13 @@ impl Hall {
     }
 
     // Whether a row is told as busy that was asked for so often before.
-    fn is_busy(&self, is_third: bool, before: u32) -> bool {
+    fn is_busy(&self, position: usize, before: u32) -> bool {
+        let is_third = position % 3 == 2;
         match self.busy {
             Busy::Never => false,
             Busy::Thirds(times) => is_third && before < times,
             Busy::ThirdsElsewhere => is_third && before == 0,
+            Busy::ByPosition => (before as usize) < position,
             Busy::UntilWaits(waits) => {
                 before < MOST_ASKED && self.waits.load(Ordering::SeqCst) < waits
             }
@@ -151,11 +155,11 @@ impl Hall {
         ensures { IfOk result (IsTaken granule.now) }
     {
         let before = rows.ask(granule);
-        let is_third = position_of(granule) % 3 == 2;
-        if self.is_busy(is_third, before) {
+        let position = position_of(granule);
+        if self.is_busy(position, before) {
             return Ok(Taken::Busy);
         }
-        if is_third && matches!(self.busy, Busy::ThirdsElsewhere) {
+        if position % 3 == 2 && matches!(self.busy, Busy::ThirdsElsewhere) {
             rows.pass(granule);
             return Ok(Taken::Done);
         }

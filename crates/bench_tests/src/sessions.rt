@@ -214,6 +214,29 @@ fn who_holds_some_goes_on_at_once(rt: HostRuntime) -> Result<(), Fail> {
     Ok(())
 }
 
+// Rows 1 and 2 are busy at first. The second look claims row 1, and row 2 is busy still: the next turn
+// comes at once.
+#[test]
+fn who_holds_some_at_the_second_look_goes_on_at_once(rt: HostRuntime) -> Result<(), Fail> {
+    let mut hall = Hall::new(rt.alloc(), &[(1, 3)], 3, 3);
+    hall.busy = Busy::ByPosition;
+    let (seats, is_served) = serve(&rt, &hall, &Turnstile::new(SESSION, 0))?;
+    assert!(rt; is_served);
+    let counts = Counts {
+        turns: 6,
+        looks: 0,
+        claims: 3,
+        again: 2,
+        carries: 2,
+        given_back: 0,
+        most_held: 1,
+    };
+    assert_eq!(rt; seats.rows.counts, counts);
+    assert_eq!(rt; seats.rows.done_rows(), 2);
+    assert_eq!(rt; hall.waited(), (1, 5));
+    Ok(())
+}
+
 // Another actor has moved the row at the second look: nothing is held and nothing is busy.
 #[test]
 fn what_moved_elsewhere_is_not_waited_for(rt: HostRuntime) -> Result<(), Fail> {
