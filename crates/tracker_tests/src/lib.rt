@@ -13,3 +13,5 @@ mod lists;
 mod locks;
 #[cfg(test)]
 mod stripes;
+#[cfg(test)]
+mod trackers;

@@ -1,0 +1,12 @@
+pub mod Lists
+pub mod Seating
+pub mod Holding
+pub mod Claiming
+pub mod Fresh
+pub mod Granules
+pub mod Done
+pub mod Rising
+pub mod Works
+pub mod Shapes
+pub mod Lifting
+pub mod Crosses
