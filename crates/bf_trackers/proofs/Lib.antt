@@ -5,6 +5,7 @@ pub mod Claiming
 pub mod Fresh
 pub mod Granules
 pub mod Done
+pub mod Anchored
 pub mod Rising
 pub mod Works
 pub mod Shapes

@@ -96,7 +96,7 @@ module _ (gs : List Granule) (differ : AreDifferent gs) (i : ℕ) where
   pub next_in_order : (g copy : Granule) (items new : List Granule) → new ≡ with_granule items copy → copy ≡ g → items ≡ by_place (take i gs) → Some g ≡ slice_get gs i → new ≡ by_place (take (i + 1) gs)
   next_in_order g copy items new is copied so_far at =
       let none : has same_granule (by_place (take i gs)) g ≡ false =
-          list_any-with_placed granule_cmp_total (λ h. h) (same_granule g) [] (take i gs) ∙ none_before g (sym at) (has same_granule (take i gs) g) refl in
+      list_any-with_placed granule_cmp_total (λ h. h) (same_granule g) [] (take i gs) ∙ none_before g (sym at) (has same_granule (take i gs) g) refl in
       is ∙ ap₂ with_granule so_far copied ∙ if_new (by_place (take i gs)) g none
       ∙ sym (fold-append (placed granule_cmp (λ h. h)) [] (take i gs) (g ∷ [])) ∙ ap by_place (sym (take_one gs i g (sym at)))
 

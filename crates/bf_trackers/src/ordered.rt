@@ -27,9 +27,9 @@ fn place_for(granules: &[Granule], granule: &Granule) -> Option<usize>
     }
 }
 
-/// Puts a granule in its place among others that rise by unit and place, and leaves them as they are
-/// where it is one of them. It compares the granule with the last alone where it comes behind that one,
-/// and else with about log n others, and moves those behind its place.
+/// Puts a granule in its place among others that rise by unit and place, and leaves them as they
+/// are exactly where it is one of them. It compares the granule with the last alone where it comes
+/// behind that one, and else with about log n more; it moves those behind its place.
 ///
 /// # Errors
 /// Where memory runs out. The list is as it was.

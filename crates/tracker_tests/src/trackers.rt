@@ -103,7 +103,8 @@ fn both_answer(
     Ok(of_row == answer && of_value == answer)
 }
 
-// Whether a number's row and value are claimed, given back, claimed again and finished, and are done then.
+// Whether a number's row and value are claimed, given back, claimed again and finished, and are done
+// then.
 fn go_through(
     alloc: Global,
     rt: &impl Wait,

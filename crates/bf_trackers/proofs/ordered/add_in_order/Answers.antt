@@ -12,6 +12,6 @@ returns-in_ok-insert-clause-rising c =
     let old = c.args.granules.now.items in
     let g = c.args.granule in
     let is : c.insert.new.self.items ≡ with_granule old g =
-        c.in_ok-insert.ensures.items ∙ ap (λ (gs : List Granule). insert gs c.in-Some.place g) (sym c.as_slice.ensures.value)
-        ∙ c.in-Some.ensures.new ∙ ap (λ (gs : List Granule). with_granule gs g) c.as_slice.ensures.value in
+    c.in_ok-insert.ensures.items ∙ ap (λ (gs : List Granule). insert gs c.in-Some.place g) (sym c.as_slice.ensures.value)
+    ∙ c.in-Some.ensures.new ∙ ap (λ (gs : List Granule). with_granule gs g) c.as_slice.ensures.value in
     ap (rises granule_cmp) is ∙ rising_with old g c.requires.rising
