@@ -1,1 +1,2 @@
-mod Trackers
+mod Placed
+mod Standing

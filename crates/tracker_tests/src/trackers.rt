@@ -124,18 +124,33 @@ fn go_through(
     Ok(given_back && finished && done)
 }
 
-// 40 numbers have keys in each of the 16 stripes.
+// The first of 40 numbers that does not go through, where 3 is done from the start. They have keys in
+// each of the 16 stripes.
+fn first_wrong(
+    alloc: Global,
+    rt: &impl Wait,
+    units: &UnitTrackers,
+    mut seats: TrackerSeats,
+) -> Result<Option<u32>, Memory>
+    requires shapes { map shape_of units.now ≡ Rows 40 ∷ Keys ∷ [] }
+    requires spent { HoldClaims units.now seats [] }
+{
+    for number in 0..40u32 {
+        let first = if number == 3 { "done" } else { "claimed" };
+        if !go_through(alloc, rt, units, &mut seats, number, first)? {
+            return Ok(Some(number));
+        }
+    }
+    Ok(None)
+}
+
 #[test]
 fn rows_and_keys_are_tracked(rt: HostRuntime) -> Result<(), Fail> {
     let alloc = rt.alloc();
     let shapes = [Shape::Rows(40), Shape::Keys];
     let done = [row(3), value(alloc, 3)?];
-    let (units, mut seats) = UnitTrackers::of(alloc, &shapes, &done)?;
-    for number in 0..40u32 {
-        let first = if number == 3 { "done" } else { "claimed" };
-        let is_so = go_through(alloc, &rt, &units, &mut seats, number, first)?;
-        assert!(rt; is_so, "number {number}");
-    }
+    let (units, seats) = UnitTrackers::of(alloc, &shapes, &done)?;
+    assert_eq!(rt; first_wrong(alloc, &rt, &units, seats)?, None);
     Ok(())
 }
 

@@ -16,3 +16,7 @@ pub key_place : (units : List UnitTracker) (rows : ℕ) (key : List Value) → m
 key_place [] rows key e = absurd cc
 key_place (u ∷ []) rows key e = absurd cc
 key_place (u ∷ v ∷ us) rows key e = let is : shape_of v ≡ Keys = cc in subst (λ s. IsPlaceOf (Group key) s) (sym is) tt
+
+-- the same, of a granule that is the value's
+pub value_place : (units : List UnitTracker) (rows : ℕ) (key : List Value) (granule : Granule) → granule ≡ record { unit = 1; place = Group key } → map shape_of units ≡ Rows rows ∷ Keys ∷ [] → HasPlace units granule
+value_place units rows key granule is e = subst (λ (g : Granule). HasPlace units g) (sym is) (key_place units rows key e)
