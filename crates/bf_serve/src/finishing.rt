@@ -1,15 +1,14 @@
 //! What is left of the last migration behind the sessions, moved.
 
-ghost use Rattle.std.specs.Prelude.{◌≡◌, ℕ, [], IfOk, IsTrue, OnOk, Some};
+ghost use Rattle.std.specs.Prelude.{◌≡◌, [], IfOk, IsTrue, OnOk, Some};
 ghost use Rattle.boxcar.specs.Table.{Shows};
 ghost use Rattle.bf_base.specs.Lists.{rises};
 ghost use Rattle.bf_image.specs.Migrations.{IsLawfulMigration, old_of, value_indexes};
 ghost use Rattle.bf_sql.specs.migrations.Granules.{granules_of};
 ghost use Rattle.bf_store.specs.States.{AreGranules, granule_cmp};
 ghost use Rattle.bf_store.specs.Stores.{migration_of};
-ghost use Rattle.bf_machine.specs.interleaving.Calls.{HasSessionEnded, IsPlace};
 ghost use Rattle.bf_machine.specs.interleaving.Journals.{Keeps};
-ghost use Rattle.bf_serve.specs.Finishing.{HasFinished, HasMovedOrStopped};
+ghost use Rattle.bf_serve.specs.Finishing.{HasFinished, HasMovedOrStopped, LeavesSessions};
 
 use bf_base::{Granule, Memory};
 use bf_image::{Migration, MigrationPass, Registry, ValueIndexes};
@@ -64,9 +63,7 @@ fn move_in_records<N: Opened, J: Journal>(
     ensures keeps { Keeps J.Answers N.opening machine.old journal.old machine.new
         journal.new }
     ensures moved { OnOk result
-        (HasMovedOrStopped J.Answers granules.now machine.old machine.new journal.new) }
-    ensures ended { (s : ℕ) → IsPlace machine.old.script s → HasSessionEnded machine.old s
-        → HasSessionEnded machine.new s }
+        (HasMovedOrStopped J.Answers machine.old granules.now machine.new journal.new) }
 {
     let mut left = granules;
     while !left.is_empty() {
@@ -99,8 +96,7 @@ pub fn finish_migration<N: Opened, J: Journal>(
     ensures keeps { Keeps J.Answers N.opening machine.old journal.old machine.new
         journal.new }
     ensures finished { OnOk result (HasFinished J.Answers machine.new journal.new) }
-    ensures ended { (s : ℕ) → IsPlace machine.old.script s → HasSessionEnded machine.old s
-        → HasSessionEnded machine.new s }
+    ensures leaves { OnOk result (LeavesSessions machine.old machine.new) }
 {
     let Some(pass) = machine.migration() else {
         return Ok(());
