@@ -1,3 +1,2 @@
-pub mod Seating
 pub mod Crosses
 pub mod threads

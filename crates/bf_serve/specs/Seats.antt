@@ -1,5 +1,5 @@
 -- SEATS: what an actor of a run was told, and its seat at the trackers of the migration that this was about.
-use Rattle.std.specs.Prelude.{◌≡◌, ℕ, List, [], length, Option, Some, None, IfSome, slice_get}
+use Rattle.std.specs.Prelude.{◌≡◌, ◌∙◌, sym, ap, ℕ, List, [], length, Option, Some, None, IfSome, slice_get}
 use Rattle.boxcar.specs.Table.{Shows}
 use Rattle.bf_base.specs.declared.granule.Granule.{Granule}
 use Rattle.bf_bench.specs.Notes.{Notes}
@@ -48,6 +48,14 @@ pub record Seats : Type 0 where
 
 abbrev pub Hold : Seats → List Entry → Type 0
 Hold seats entries = HoldIfSeated seats.seat entries
+
+-- there is one number of claims that are held
+number_held : (seat : Option Seat) (some others : List Entry) → HoldIfSeated seat some → HoldIfSeated seat others → length some ≡ length others
+number_held None some others none none' = ap length (none ∙ sym none')
+number_held (Some seat) some others holds holds' = sym holds.held.count ∙ holds'.held.count
+
+pub one_number : (seats : Seats) (some others : List Entry) → Hold seats some → Hold seats others → length some ≡ length others
+one_number seats some others holds holds' = number_held seats.seat some others holds holds'
 
 -- granules that are noted are of the migration of the seat; without a seat none are
 abbrev pub AreOfSeat : Option Seat → List Granule → Type 0

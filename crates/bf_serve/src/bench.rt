@@ -76,8 +76,7 @@ impl<'r, 'g, N: Beginning<J>, J: Journal, R: Wait, G: Gate> Shared<'r, 'g, N, J,
 }
 
 impl<'r, 'g, N: Beginning<J>, J: Journal, R: Wait, G: Gate> Bench for Shared<'r, 'g, N, J, R, G> {
-    ghost use Rattle.bf_serve.specs.Seats.{Hold};
-    ghost use Rattle.bf_serve.proofs.Seating.{one_number};
+    ghost use Rattle.bf_serve.specs.Seats.{Hold, one_number};
 
     type Seats = Seats<N>;
 

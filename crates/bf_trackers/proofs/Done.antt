@@ -1,6 +1,6 @@
 -- The positions of granules that differ and are a migration's: each stands once, and is one of its unit.
-use Rattle.std.proofs.Common.{◌≡◌, ◌≢◌, ℕ, ◌+◌, ◌<◌, ◌≤◌, ◌==◌, ◌&&◌, Bool, true, false, not, inl, inr, List, [], ◌∷◌, ◌++◌, flat_map, refl, sym, ap, ap₂, subst, ◌∙◌, arith, Some}
-use Rattle.std.specs.List.{slice_get, list_all, All, AllByRecursion}
+use Rattle.std.proofs.Common.{◌≡◌, ℕ, ◌<◌, ◌≤◌, ◌==◌, ◌&&◌, Bool, true, false, not, inl, inr, List, [], ◌∷◌, ◌++◌, refl, sym, ap, ap₂, subst, ◌∙◌, arith, Some}
+use Rattle.std.specs.List.{slice_get, list_all, AllByRecursion}
 use Rattle.std.proofs.lemmas.Bool.{and_parts, cases_eq, false≢true, not-true, or_parts}
 use Rattle.std.proofs.lemmas.List.Elements.{All-from_recursion}
 use Rattle.std.proofs.lemmas.Option.{same_Some}
@@ -10,17 +10,16 @@ use Rattle.bf_base.specs.declared.granule.Place.TheVariants.{Row, Group}
 use Rattle.bf_base.specs.Lists.{has}
 use Rattle.bf_base.proofs.Apart.{are_apart}
 use Rattle.bf_bits.specs.Positions.{times, IsDistinct}
-use Rattle.bf_bits.proofs.Counting.{times-append, times-here, times-other}
+use Rattle.bf_bits.proofs.Counting.{times-here, times-other}
 use Rattle.bf_sql.specs.migrations.Granules.{granule, granules_of, same_granule, same_place}
 use Rattle.bf_image.specs.Migrations.{old_of}
 use Rattle.bf_image.specs.declared.migration.Migration.{Migration}
 use Rattle.bf_image.proofs.planning.Numbered.{each_append}
 use Rattle.bf_store.specs.States.{AreGranules}
 use Rattle.bf_store.specs.Stores.{migration_of}
-use Rattle.bf_trackers.specs.declared.units.Shape.{Shape}
 use Rattle.bf_trackers.specs.declared.units.Shape.TheVariants as shape
 use Rattle.bf_trackers.specs.Migrations.{IsGranuleOf, shapes_of}
-use Rattle.bf_trackers.specs.Units.{AreDoneIn, IsPlaceOf, MayBeDone, position_if, positions_in}
+use Rattle.bf_trackers.specs.Units.{AreDoneIn, IsPlaceOf, position_if, positions_in}
 use Rattle.bf_trackers.proofs.Granules.{same_from_test, shape_there}
 use Rattle.bf_trackers.proofs.Lists.{same_number, other_number}
 

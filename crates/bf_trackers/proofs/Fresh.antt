@@ -11,7 +11,7 @@ use Rattle.bf_trackers.specs.declared.units.UnitTracker.{UnitTracker}
 use Rattle.bf_trackers.specs.declared.units.UnitTracker.TheVariants.{Rows, Keys}
 use Rattle.bf_trackers.specs.Holding.{HoldClaims}
 use Rattle.bf_trackers.specs.Seats.{Seats, held_at}
-use Rattle.bf_trackers.specs.Units.{AreMade, AreSeatsOf, IsSeatOf, first_seat_of, new_seat_of, positions_in, shape_of}
+use Rattle.bf_trackers.specs.Units.{AreMade, IsSeatOf, first_seat_of, new_seat_of, positions_in, shape_of}
 use Rattle.bf_trackers.proofs.Lists.{get_there, get-front, get-length, get-snoc, take_one}
 
 abbrev held_of : Option Seat → List ℕ

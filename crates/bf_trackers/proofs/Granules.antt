@@ -1,8 +1,8 @@
 -- The granules of a migration have their places in its units.
-use Rattle.std.proofs.Common.{◌≡◌, ◌≢◌, ℕ, zero, suc, ◌+◌, ◌<◌, ◌≤◌, ◌==◌, ◌&&◌, ◌||◌, ◌⊎◌, Bool, true, false, inl, inr, List, [], ◌∷◌, ◌++◌, map, flat_map, length, take, refl, sym, ap, subst, ◌∙◌, arith, Option, Some, None}
-use Rattle.std.specs.List.{slice_get, enumerate_from, range_with_len, list_all, list_any, All, AllByRecursion}
+use Rattle.std.proofs.Common.{◌≡◌, ℕ, zero, suc, ◌+◌, ◌<◌, ◌==◌, ◌&&◌, ◌||◌, ◌⊎◌, Bool, true, false, inl, inr, List, [], ◌∷◌, map, flat_map, length, refl, sym, ap, subst, ◌∙◌, arith, Option, Some, None}
+use Rattle.std.specs.List.{slice_get, enumerate_from, range_with_len}
 use Rattle.std.specs.Option.{option_map}
-use Rattle.std.proofs.lemmas.Bool.{and_parts, cases_Bool, false≢true, or_parts}
+use Rattle.std.proofs.lemmas.Bool.{and_parts, false≢true}
 use Rattle.std.proofs.lemmas.Bool.Decides.{nat_tests}
 use Rattle.std.proofs.lemmas.List.Folds.{list_any-append}
 use Rattle.std.proofs.lemmas.Option.{none-some, same_Some, slice_get-map}
@@ -12,7 +12,7 @@ use Rattle.bf_base.specs.declared.granule.Place.TheVariants.{Row, Group}
 use Rattle.bf_base.specs.declared.value.Value.{Value}
 use Rattle.bf_base.specs.Lists.{has}
 use Rattle.bf_sql.specs.Database.{Database, table_rows}
-use Rattle.bf_sql.specs.migrations.Granules.{UnitForm, rows_unit, values_unit, granule, granules_of, places_in, same_granule, same_place}
+use Rattle.bf_sql.specs.migrations.Granules.{UnitForm, rows_unit, values_unit, granule, places_in, same_granule, same_place}
 use Rattle.bf_image.specs.Migrations.{old_of, units_in}
 use Rattle.bf_image.specs.declared.migration.Migration.{Migration}
 use Rattle.bf_trackers.specs.declared.units.Shape.{Shape}

@@ -1,27 +1,21 @@
 -- What seats hold behind a claim, and behind the end of one.
-use Rattle.std.proofs.Common.{◌≡◌, ◌≢◌, ℕ, suc, ◌==◌, ◌+◌, ◌-◌, ◌∙◌, Bool, true, false, List, [], ◌∷◌, ◌++◌, fold, length, refl, sym, ap, subst, arith, inl, inr, Option, Some, None, length-append}
-use Rattle.std.specs.List.{slice_get, slice_set, AllByRecursion}
+use Rattle.std.proofs.Common.{◌≡◌, ◌≢◌, ℕ, ◌==◌, ◌+◌, ◌-◌, ◌∙◌, Bool, true, false, List, [], ◌∷◌, ◌++◌, refl, sym, ap, subst, arith, inl, inr, Some, length-append}
+use Rattle.std.specs.List.{slice_get}
 use Rattle.std.proofs.lemmas.Bool.{cases_eq}
 use Rattle.std.proofs.lemmas.List.Sums.{fold-append}
 use Rattle.bf_base.specs.declared.granule.Granule.{Granule}
-use Rattle.bf_bits.specs.declared.answer.Look.{Look}
-use Rattle.bf_bits.specs.declared.answer.Look.TheVariants as look
-use Rattle.bf_bits.specs.Positions.{Has, without}
-use Rattle.bf_bits.specs.Seats.{Seat, Tracker, Claim as BitClaim, Holds}
-use Rattle.bf_bits.specs.Words.{state_in}
-use Rattle.bf_drive.specs.Claims.{IsOf}
+use Rattle.bf_bits.specs.Positions.{without}
+use Rattle.bf_bits.specs.Seats.{Seat, Tracker, Claim as BitClaim}
 use Rattle.bf_drive.specs.Lists.{Entry}
 use Rattle.bf_drive.specs.declared.claim.Claim.{Claim}
 use Rattle.bf_drive.specs.declared.claim.Claim.TheVariants.{Row, Group}
 use Rattle.bf_trackers.specs.declared.seats.Ending.{Ending}
-use Rattle.bf_trackers.specs.declared.seats.Ending.TheVariants.{Finished, GivenBack}
 use Rattle.bf_trackers.specs.declared.units.UnitTracker.{UnitTracker}
-use Rattle.bf_trackers.specs.declared.units.UnitTracker.TheVariants.{Rows, Keys}
-use Rattle.bf_trackers.specs.Holding.{AreFinished, HoldClaims, IsClaimed, IsClaimOf, finished_if, finished_with, held_by, held_if}
-use Rattle.bf_trackers.specs.Seats.{Seats, seat_at, held_at, finished_at, found_at, with_seat, after_claim, after_end, claimed_by, ended_by, finished_by}
-use Rattle.bf_trackers.specs.Units.{AreSeatsOf, IsSeatOf, IsThere}
+use Rattle.bf_trackers.specs.declared.units.UnitTracker.TheVariants.{Rows}
+use Rattle.bf_trackers.specs.Holding.{AreFinished, HoldClaims, IsClaimed, finished_if, finished_with, held_by, held_if}
+use Rattle.bf_trackers.specs.Seats.{Seats, seat_at, held_at, finished_at, with_seat, finished_by}
 use Rattle.bf_trackers.proofs.Lists.{all_front, all_last, all_snoc, other_number, same_number}
-use Rattle.bf_trackers.proofs.Seating.{finished_other, finished_same, finished_was, held_other, held_same, held_was, rows_seat, seat_there, set_own}
+use Rattle.bf_trackers.proofs.Seating.{finished_other, finished_same, finished_was, held_other, held_same, held_was, set_own}
 
 -- what one more claim adds
 pub held_snoc : (unit : ℕ) (entries : List Entry) (entry : Entry) → held_by unit (entries ++ entry ∷ []) ≡ held_if ((entry.0).unit == unit) entry.1 (held_by unit entries)

@@ -5,6 +5,9 @@ pub mod Claiming
 pub mod Fresh
 pub mod Granules
 pub mod Done
+pub mod Anchored
+pub mod Rising
 pub mod Works
 pub mod Shapes
 pub mod Lifting
+pub mod Crosses

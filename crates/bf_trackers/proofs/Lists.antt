@@ -1,5 +1,5 @@
 -- Lists with another item at an index, and with one more at the end.
-use Rattle.std.proofs.Common.{◌≡◌, ◌≢◌, ℕ, zero, suc, ◌==◌, ◌<◌, ◌⊎◌, inl, inr, Bool, true, false, List, [], ◌∷◌, ◌++◌, length, take, refl, sym, ap, ◌∙◌, ◌+◌, ◌-◌, arith, Option, Some, None}
+use Rattle.std.proofs.Common.{◌≡◌, ◌≢◌, ℕ, zero, suc, ◌==◌, ◌<◌, ◌⊎◌, inl, inr, true, false, List, [], ◌∷◌, ◌++◌, length, take, refl, sym, ap, ◌∙◌, ◌+◌, ◌-◌, arith, Some, None}
 use Rattle.std.specs.List.{slice_get, slice_set, AllByRecursion}
 use Rattle.std.proofs.lemmas.Bool.Decides.{nat_tests}
 use Rattle.std.proofs.lemmas.Option.{none-some, same_Some}
@@ -89,3 +89,10 @@ module _ {X : Type 0} where
 
   pub take_one : (xs : List X) (i : ℕ) (x : X) → slice_get xs i ≡ Some x → take (i + 1) xs ≡ take i xs ++ x ∷ []
   take_one xs i x at = (let next : i + 1 ≡ suc i = omega arith in ap (λ n. take n xs) next ∙ take_suc xs i x at)
+
+  -- an item of a front
+  pub taken : (n k : ℕ) (xs : List X) (x : X) → slice_get (take n xs) k ≡ Some x → (k < n) × (slice_get xs k ≡ Some x)
+  taken zero k xs x at = absurd (none-some x at)
+  taken (suc n) k [] x at = absurd (none-some x at)
+  taken (suc n) zero (y ∷ xs) x at = (omega arith, at)
+  taken (suc n) (suc k) (y ∷ xs) x at = (let rest = taken n k xs x at in let less = rest.0 in (omega arith, rest.1))

@@ -1,5 +1,5 @@
 -- Seats of which one is another.
-use Rattle.std.proofs.Common.{◌≡◌, ◌≢◌, ℕ, ◌∙◌, List, [], ◌∷◌, length, refl, sym, ap, subst, arith, inl, inr, Option, Some, None}
+use Rattle.std.proofs.Common.{◌≡◌, ◌≢◌, ℕ, ◌∙◌, List, [], sym, ap, subst, arith, inl, inr, Option, Some, None}
 use Rattle.std.specs.List.{slice_get, slice_set}
 use Rattle.std.specs.Option.{option_and_then, option_map, unwrap_or}
 use Rattle.std.proofs.lemmas.List.{length-set}
@@ -7,7 +7,7 @@ use Rattle.std.proofs.lemmas.Option.{none-some, same_Some, slice_get_within}
 use Rattle.std.proofs.lemmas.Bool.{cases_eq}
 use Rattle.bf_bits.specs.Seats.{Seat, Tracker}
 use Rattle.bf_trackers.specs.declared.units.UnitTracker.{UnitTracker}
-use Rattle.bf_trackers.specs.declared.units.UnitTracker.TheVariants.{Rows, Keys}
+use Rattle.bf_trackers.specs.declared.units.UnitTracker.TheVariants.{Rows}
 use Rattle.bf_trackers.specs.Seats.{Seats, seat_at, held_at, finished_at, with_seat}
 use Rattle.bf_trackers.specs.Units.{AreSeatsOf, IsSeatOf}
 use Rattle.bf_trackers.proofs.Lists.{get-set_same, get-set_other, get_there}

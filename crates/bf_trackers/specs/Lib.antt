@@ -4,4 +4,5 @@ pub mod Seats
 pub mod Units
 pub mod Holding
 pub mod Migrations
+pub mod Ordered
 pub mod Works

@@ -1,5 +1,5 @@
 -- The seats of an actor, as contracts see them.
-use Rattle.std.specs.Prelude.{ℕ, ◌+◌, ◌-◌, List, [], ◌∷◌, Option, Some, None, option_map, slice_get, slice_set, unwrap_or}
+use Rattle.std.specs.Prelude.{ℕ, ◌+◌, ◌-◌, List, [], ◌∷◌, Option, Some, option_map, slice_get, slice_set, unwrap_or}
 use Rattle.std.specs.Option.{option_and_then}
 use Rattle.bf_bits.specs.declared.answer.Look.{Look}
 use Rattle.bf_bits.specs.declared.answer.Look.TheVariants.{Free, Held, Done}

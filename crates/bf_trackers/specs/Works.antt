@@ -4,11 +4,12 @@ use Rattle.std.specs.Coded.{Coded, code_by, coded×}
 use Rattle.std.specs.List.{AllByRecursion}
 use Rattle.boxcar.specs.Table.{Where}
 use Rattle.bf_base.specs.declared.granule.Granule.{Granule}
-use Rattle.bf_base.specs.Lists.{in_order, rises}
+use Rattle.bf_base.specs.Lists.{rises}
 use Rattle.bf_drive.specs.Lists.{Entry, granules_in}
 use Rattle.bf_image.specs.declared.migration.Migration.{Migration}
-use Rattle.bf_store.specs.States.{AreGranules, granule_cmp, most_moved, place_cmp}
+use Rattle.bf_store.specs.States.{AreGranules, most_moved, place_cmp}
 use Rattle.bf_store.specs.Stores.{migration_of}
+use Rattle.bf_trackers.specs.Ordered.{by_place}
 
 pub record Work : Type 0 where
   pub pass : Where Migration
@@ -17,10 +18,6 @@ pub record Work : Type 0 where
 
 abbrev pub work_coded : Coded (Where Migration) → Coded (List Entry) → Coded (List Granule) → Coded Work
 work_coded pass wip granules = code_by (Where Migration × (List Entry × List Granule)) (coded× pass (coded× wip granules)) (λ w. (w.pass, (w.wip, w.granules))) (λ p. record { pass = p.0; wip = p.1.0; granules = p.1.1 }) (λ _. refl)
-
--- granules in the order of unit and place
-abbrev pub by_place : List Granule → List Granule
-by_place granules = in_order granule_cmp (λ g. g) granules
 
 -- the claimed granules in their order, as one record may move them
 pub record IsWork (pass : Where Migration) (wip : List Entry) (granules : List Granule) : Type 0 where

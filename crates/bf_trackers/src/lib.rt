@@ -2,19 +2,15 @@
 //! record of moves is to do.
 #![tactic(auto)]
 
-pub mod lookups;
 pub mod ordered;
 pub mod seats;
-pub mod shelf;
 pub mod stripes;
 pub mod trackers;
 pub mod units;
 pub mod work;
 
-pub use lookups::{Lookups, Registered};
 pub use ordered::add_in_order;
 pub use seats::TrackerSeats;
-pub use shelf::{TrackerShelf, TrackersPass};
 pub use stripes::Stripes;
 pub use trackers::Trackers;
 pub use units::{Shape, UnitTracker, UnitTrackers};

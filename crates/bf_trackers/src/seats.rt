@@ -1,4 +1,5 @@
-//! What an actor has of a migration's trackers: a seat for each unit of rows, and a count of its claims.
+//! What an actor has of a migration's trackers: a seat for each unit of rows, and a count of its
+//! claims.
 
 ghost use Rattle.std.specs.Prelude.{◌≡◌, ◌+◌, ◌-◌, ◌<◌, ◌^◌, Some};
 ghost use Rattle.bf_bits.specs.Answers.{answer_for};
@@ -12,17 +13,17 @@ use bf_bits::{BitAnswer, BitClaim, BitSeat, Bits};
 use bf_drive::Claim;
 use std::marker::Model;
 
-/// How a claim ends.
+// How a claim ends.
 #[derive(Clone, Copy, Debug, PartialEq, Eq)]
 pub(crate) enum Ending {
-    /// Its granule is done from now on.
+    // Its granule is done from now on.
     Finished,
-    /// Its granule is free again.
+    // Its granule is free again.
     GivenBack,
 }
 
-/// By what an actor claims granules of a migration: for each unit of rows a seat of its tracker, and how
-/// many claims it holds of all units.
+/// By what an actor claims granules of a migration: for each unit of rows a seat of its tracker, and
+/// how many claims it holds of all units.
 #[derive(Drop)]
 pub struct TrackerSeats {
     pub(crate) units: Vec<Option<BitSeat>>,
@@ -38,8 +39,9 @@ impl Model for TrackerSeats {
 }
 
 impl TrackerSeats {
-    /// Claims a position of a unit by one step: claimed exactly where the step found it free, `Busy` exactly
-    /// where it found it held, and `Done` exactly where it found it done. Takes no lock and no memory.
+    // Claims a position of a unit by one step: claimed exactly where the step found it free, `Busy`
+    // exactly where it found it held, and `Done` exactly where it found it done. Takes no lock and
+    // no memory.
     pub(crate) fn claim_row(&mut self, bits: &Bits, unit: u8, at: u32) -> Taken
         requires at { at < bits.now.granules }
         requires own { (seat : Seat) × (seat_at self.old unit ≡ Some seat)
@@ -63,7 +65,7 @@ impl TrackerSeats {
         }
     }
 
-    /// Ends a claim of a unit by one step. Takes no lock and no memory.
+    // Ends a claim of a unit by one step. Takes no lock and no memory.
     pub(crate) fn end_row(&mut self, bits: &Bits, unit: u8, claim: BitClaim, ending: Ending)
         requires of_this { claim.table ≡ bits.now.table }
         requires own { (seat : Seat) × (seat_at self.old unit ≡ Some seat)
@@ -82,7 +84,7 @@ impl TrackerSeats {
         self.count -= 1;
     }
 
-    /// Counts a claim of a key, if it is granted.
+    // Counts a claim of a key, if it is granted.
     pub(crate) fn add_key(&mut self, taken: &Taken)
         requires room { self.old.count + 1 < 2 ^ 32 }
         ensures { self.new ≡ record self.old { count = self.old.count + claims_in taken.now } }
@@ -93,7 +95,7 @@ impl TrackerSeats {
         }
     }
 
-    /// Counts a claim of a key less.
+    // Counts a claim of a key less.
     pub(crate) fn drop_key(&mut self)
         requires some { 0 < self.old.count }
         ensures { self.new ≡ record self.old { count = self.old.count - 1 } }

@@ -16,8 +16,8 @@ use std::sync::{Mutex, Wait};
 /// How many stripes the keys of a unit go to.
 pub const STRIPES: usize = 16;
 
-/// The states of the keys of a unit. A key goes to one of 16 stripes, each under a lock of its own, so
-/// that threads seldom wait for one another.
+/// The states of the keys of a unit. A key goes to one of 16 stripes, each under a lock of its own,
+/// so that threads seldom wait for one another.
 #[derive(Drop)]
 pub struct Stripes {
     stripes: Vec<Mutex<Stripe>>,
@@ -85,8 +85,8 @@ impl Stripes {
         &self.stripes[stripe_of(key)]
     }
 
-    /// Claims a key: `Busy` where it is held, `Done` where it is done. Takes the lock of its stripe, and
-    /// costs what [`Stripe::claim`] does.
+    /// Claims a key: `Busy` where it is held, `Done` where it is done. Takes the lock of its stripe,
+    /// and costs what [`Stripe::claim`] does.
     ///
     /// # Errors
     /// Where memory runs out. Nothing is claimed then.
@@ -101,7 +101,7 @@ impl Stripes {
         })
     }
 
-    /// Ends a claim: its key is done, or free again. Takes the lock of its stripe and no memory.
+    // Ends a claim: its key is done, or free again. Takes the lock of its stripe and no memory.
     pub(crate) fn end<R: Wait>(&self, rt: &R, claim: HashClaim, ending: Ending) {
         let stripe = self.of_key(claim.key());
         let mut states = stripe.lock(rt);

@@ -1,6 +1,7 @@
 //! The trackers of a migration, with its pass.
 
-ghost use Rattle.std.specs.Prelude.{◌≡◌, ◌<◌, ◌≤◌, ◌∷◌, ◌++◌, [], List, IfOk, OnErr, Some, length, map};
+ghost use Rattle.std.specs.Prelude.{◌≡◌, ◌<◌, ◌≤◌, ◌∷◌, ◌++◌, []};
+ghost use Rattle.std.specs.Prelude.{List, IfOk, OnErr, Some, length, map};
 ghost use Rattle.std.specs.Option.{option_map};
 ghost use Rattle.boxcar.specs.Table.{Shows};
 ghost use Rattle.bf_bench.specs.Notes.{Stands};
@@ -75,8 +76,9 @@ fn shapes(alloc: Global, migration: &Migration) -> Result<Vec<Shape>, Memory>
 }
 
 impl Trackers {
-    /// The trackers of a pass's migration, in which exactly these granules are done and none is held, and
-    /// their first seats. It goes over the granules once for each unit, and is linear in the old rows.
+    /// The trackers of a pass's migration, in which exactly these granules are done and none is
+    /// held, and their first seats. It goes over the granules once for each unit, and is linear in
+    /// the old rows.
     ///
     /// # Errors
     /// Where memory runs out.
@@ -106,8 +108,8 @@ impl Trackers {
         &self.pass
     }
 
-    /// Seats for another actor, which hold nothing, split off from others. Takes no memory but for their
-    /// list.
+    /// Seats for another actor, which hold nothing, split off from others. Takes no memory but for
+    /// their list.
     ///
     /// # Errors
     /// Where memory runs out.
@@ -120,9 +122,9 @@ impl Trackers {
         self.units.split(alloc, first)
     }
 
-    /// Claims a granule of the migration, by one step where its unit goes by rows, and else under the lock of
-    /// its stripe: `Busy` where it is held, `Done` where it is done. A claim of a row takes no lock and no
-    /// memory.
+    /// Claims a granule of the migration, by one step where its unit goes by rows, and else under
+    /// the lock of its stripe: `Busy` where it is held, `Done` where it is done. A claim of a row
+    /// takes no lock and no memory.
     ///
     /// # Errors
     /// Where memory runs out. Nothing is claimed then.

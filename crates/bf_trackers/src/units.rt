@@ -1,12 +1,15 @@
 //! The trackers of a migration's units, each with its own way to name a place.
 
-ghost use Rattle.std.specs.Prelude.{◌≡◌, ◌<◌, ◌≤◌, ◌∷◌, ◌++◌, [], List, IfOk, OnErr, length, map, slice_get};
+ghost use Rattle.std.specs.Prelude.{◌≡◌, ◌<◌, ◌≤◌, ◌∷◌, ◌++◌, []};
+ghost use Rattle.std.specs.Prelude.{List, IfOk, OnErr, length, map, slice_get};
 ghost use Rattle.std.specs.Option.{option_copied};
 ghost use Rattle.bf_bench.specs.Notes.{Stands};
 ghost use Rattle.bf_drive.specs.Lists.{Entry, most_granules};
 ghost use Rattle.bf_trackers.specs.declared.seats.Ending.TheVariants.{Finished, GivenBack};
 ghost use Rattle.bf_trackers.specs.Holding.{AreFinished, HoldClaims};
-ghost use Rattle.bf_trackers.specs.Units.{AreDoneIn, AreMade, AreSeatsOf, HasPlace, IsAnswered, IsSeatOf, MayBeDone, first_seat_of, new_seat_of, positions_in, shape_of};
+ghost use Rattle.bf_trackers.specs.Units.{AreDoneIn, AreMade, AreSeatsOf, HasPlace, IsAnswered};
+ghost use Rattle.bf_trackers.specs.Units.{IsSeatOf, MayBeDone, first_seat_of, new_seat_of};
+ghost use Rattle.bf_trackers.specs.Units.{positions_in, shape_of};
 
 use crate::seats::{Ending, TrackerSeats};
 use crate::stripes::Stripes;
@@ -79,7 +82,8 @@ fn keys_done(alloc: Global, unit: u8, done: &[Granule]) -> Result<Vec<Key>, Memo
     Ok(keys)
 }
 
-// The tracker of a unit, in which those of some granules are done that are its own, and its first seat.
+// The tracker of a unit, in which those of some granules are done that are its own, and its first
+// seat.
 fn made(
     alloc: Global,
     unit: u8,
@@ -88,7 +92,8 @@ fn made(
 ) -> Result<(UnitTracker, Option<BitSeat>), Memory>
     requires { MayBeDone (positions_in unit done.now) shape }
     ensures shape { IfOk result (λ made. shape_of made.0 ≡ shape) }
-    ensures seat { IfOk result (λ made. made.1 ≡ first_seat_of (positions_in unit done.now) made.0) }
+    ensures seat { IfOk result (λ made.
+        made.1 ≡ first_seat_of (positions_in unit done.now) made.0) }
 {
     match shape {
         Shape::Rows(rows) => {
@@ -134,8 +139,9 @@ fn split_each(
 }
 
 impl UnitTrackers {
-    /// Trackers of units of these shapes, in which exactly these granules are done and none is held, and
-    /// their first seats. It goes over the granules once for each unit, and is linear in the rows.
+    /// Trackers of units of these shapes, in which exactly these granules are done and none is
+    /// held, and their first seats. It goes over the granules once for each unit, and is linear in
+    /// the rows.
     ///
     /// # Errors
     /// Where memory runs out.
@@ -184,8 +190,9 @@ impl UnitTrackers {
         self.units.get(number as usize)
     }
 
-    /// Claims a granule, by one step where its unit goes by rows, and else under the lock of its stripe:
-    /// `Busy` where it is held, `Done` where it is done. A claim of a row takes no lock and no memory.
+    /// Claims a granule, by one step where its unit goes by rows, and else under the lock of its
+    /// stripe: `Busy` where it is held, `Done` where it is done. A claim of a row takes no lock and
+    /// no memory.
     ///
     /// # Errors
     /// Where memory runs out. Nothing is claimed then.

@@ -1,16 +1,16 @@
 //! The work that one record of moves is to do.
 
-ghost use Rattle.std.specs.Prelude.{◌≡◌, ◌≤◌, ◌∷◌, [], ℕ, IfErr, IfOk, IsTrue, insert, length, map};
+ghost use Rattle.std.specs.Prelude.{◌≡◌, ◌≤◌, [], ℕ, IfErr, IfOk, IsTrue, length, map};
 ghost use Rattle.std.specs.List.{AllByRecursion};
-ghost use Rattle.boxcar.specs.Table.{Shows};
-ghost use Rattle.bf_base.specs.Lists.{placed, rises};
+ghost use Rattle.bf_base.specs.Lists.{rises};
 ghost use Rattle.bf_bench.specs.Notes.{AreOfOneUnit};
 ghost use Rattle.bf_drive.specs.Lists.{IsWip, granules_in};
-ghost use Rattle.bf_store.specs.States.{AreGranules, granule_cmp, most_moved, place_cmp};
+ghost use Rattle.bf_store.specs.States.{AreGranules, most_moved, place_cmp};
 ghost use Rattle.bf_store.specs.Stores.{migration_of};
 ghost use Rattle.bf_trackers.specs.Migrations.{IsGranuleOf};
-ghost use Rattle.bf_trackers.specs.Works.{by_place};
+ghost use Rattle.bf_trackers.specs.Ordered.{by_place};
 
+use crate::ordered::add_in_order;
 use bf_base::{Granule, Memory};
 use bf_drive::Wip;
 use bf_image::MigrationPass;
@@ -48,21 +48,6 @@ impl Model for Work {
     ghost invariant = { λ work. IsWork work.pass work.wip work.granules.items };
 }
 
-// The index at which a granule is to stand among others in their order: that of the first which it
-// comes before.
-fn index_for(granules: &[Granule], granule: &Granule) -> usize
-    ensures within { result ≤ length granules.now }
-    ensures index { insert granules.now result granule.now
-        ≡ placed granule_cmp (λ g. g) granules.now granule.now }
-{
-    for index in 0..granules.len() {
-        if granule.cmp(&granules[index]).is_lt() {
-            return index;
-        }
-    }
-    granules.len()
-}
-
 // Copies of the granules of a list, in their order.
 fn in_order(alloc: Global, wip: &Wip) -> Result<Vec<Granule>, Memory>
     ensures sorted { IfOk result (λ granules. granules.items ≡ by_place (granules_in wip.now)) }
@@ -73,8 +58,7 @@ fn in_order(alloc: Global, wip: &Wip) -> Result<Vec<Granule>, Memory>
         let Some(granule) = wip.at(index) else {
             unreachable!();
         };
-        let place = index_for(granules.as_slice(), granule);
-        granules.insert(place, granule.copy(alloc)?)?;
+        add_in_order(&mut granules, granule.copy(alloc)?)?;
     }
     Ok(granules)
 }

@@ -11,8 +11,10 @@ use Rattle.bf_machine.specs.declared.journal.Journal as Journal
 use Rattle.bf_machine.specs.declared.opened.Opened as Opened
 use Rattle.bf_serve.specs.contracts.engine.Engine as Engine
 use Rattle.bf_machine.specs.contracts.lookups.Lookups as Lookups
+use Rattle.bf_serve.specs.contracts.seats.Seat as Seat
 use Rattle.bf_serve.specs.contracts.shared.Shared as Shared
 use Rattle.bf_serve.specs.declared.engine.Beginning as Beginning
+use Rattle.bf_trackers.proofs.Crosses.{seats_send, trackers_send, trackers_sync}
 use Rattle.bf_serve.proofs.Crosses.Machines.{Machine-send}
 use Rattle.bf_serve.proofs.Crosses.Scripts.{Script-sync}
 
@@ -23,9 +25,12 @@ module _ (N : RattleType) (o : Opened.Ghosts N.Denot) where
   pub Lookups-sync : IsSync N → IsSync (Lookups.the_row N o)
   Lookups-sync n = search (sendable, std.crosses, migration_pass.the_sync, indexes.the_sync) depth 60 fits 30000
 
+  pub Seat-send : IsSend N → IsSend (Seat.the_row N o)
+  Seat-send n = search (sendable, std.crosses, trackers_send, trackers_sync, seats_send) depth 60 fits 30000
+
 module _ (N J : RattleType) (b : Beginning.Ghosts N.Denot J.Denot) (o : Opened.Ghosts N.Denot) (j : Journal.Ghosts J.Denot) where
   pub Engine-send : IsSend N → IsSync N → IsSend J → IsSend (Engine.the_row N J b o j)
-  Engine-send n n' k = search (sendable, std.crosses, Machine-send, Lookups-send, Lookups-sync, catalog_pass.the_send) depth 60 fits 30000
+  Engine-send n n' k = search (sendable, std.crosses, Machine-send, Lookups-send, Lookups-sync, Seat-send, catalog_pass.the_send) depth 60 fits 30000
 
-  pub Shared-sync : (κ κ' : NamedLft) (R : RattleType) → IsSend N → IsSync N → IsSend J → IsSync R → IsSync (Shared.the_row κ κ' N J R b o j)
-  Shared-sync κ κ' R n n' k r = search (sendable, std.crosses, Engine-send, Registry-sync, Script-sync) depth 60 fits 30000
+  pub Shared-sync : (κ κ' : NamedLft) (R G : RattleType) → IsSend N → IsSync N → IsSend J → IsSync R → IsSync G → IsSync (Shared.the_row κ κ' N J R G b o j)
+  Shared-sync κ κ' R G n n' k r g = search (sendable, std.crosses, Engine-send, Registry-sync, Script-sync) depth 60 fits 30000

@@ -6,12 +6,12 @@ use Rattle.bf_serve.proofs.phases.serve_over.Goals as goal
 
 pub returns-in_default : goal.returns-in_default
 returns-in_default g c =
-    let m = fresh g.N.Opened.logged c.args.store c.args.script c.args.retries in
+    let m = fresh g.N.Opened.logged c.args.store c.args.script c.args.crew.retries in
     record { come = (m, comes_at_once g.J.Journal.Answers g.N.Opened.opening g.N.Beginning.begins m c.args.journal (c.requires.begins m refl), tt) }
 
 pub returns-in-Err : goal.returns-in-Err
 returns-in-Err g c =
-    let m = fresh g.N.Opened.logged c.args.store c.args.script c.args.retries in
+    let m = fresh g.N.Opened.logged c.args.store c.args.script c.args.crew.retries in
     record { come = (m, comes_at_once g.J.Journal.Answers g.N.Opened.opening g.N.Beginning.begins m c.args.journal (c.requires.begins m refl), tt) }
 
 pub returns-in-Ok-served : goal.returns-in-Ok-served

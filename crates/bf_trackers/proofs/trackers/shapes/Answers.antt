@@ -1,4 +1,4 @@
-use Rattle.std.proofs.Common.{◌≡◌, ◌∙◌, ◌<◌, ◌≤◌, List, length, take, ap, subst, sym, arith}
+use Rattle.std.proofs.Common.{◌≡◌, ◌∙◌, ◌≤◌, List, length, take, ap, subst, sym, arith}
 use Rattle.bf_tree.specs.declared.plan.Unit.{Unit as Planned}
 use Rattle.bf_image.proofs.planning.Units.{units_few}
 use Rattle.bf_trackers.specs.declared.units.Shape.{Shape}

@@ -1,4 +1,4 @@
-use Rattle.std.proofs.Common.{◌≡◌, ◌∙◌, List, [], ◌∷◌, ◌++◌, length, take, ap, subst, sym, append_assoc}
+use Rattle.std.proofs.Common.{◌∙◌, List, [], ◌∷◌, ◌++◌, ap, subst, sym, append_assoc}
 use Rattle.bf_drive.specs.Lists.{Entry}
 use Rattle.bf_trackers.specs.Holding.{AreFinished, HoldClaims}
 use Rattle.bf_trackers.proofs.Holding.{finished_more}

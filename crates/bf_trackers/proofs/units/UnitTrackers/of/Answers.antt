@@ -1,4 +1,4 @@
-use Rattle.std.proofs.Common.{◌≡◌, ◌+◌, length, refl, arith}
+use Rattle.std.proofs.Common.{refl, arith}
 use Rattle.std.proofs.lemmas.Option.{slice_get-get_or}
 use Rattle.bf_trackers.proofs.Fresh.{made_holds, next_made}
 use Rattle.bf_trackers.proofs.units.UnitTrackers.of.Goals as goal

@@ -3,7 +3,8 @@ use Rattle.boxcar.specs.Table.{Where}
 use Rattle.bf_base.specs.declared.granule.Granule.{Granule}
 use Rattle.bf_drive.specs.Lists.{granules_in}
 use Rattle.bf_image.specs.declared.migration.Migration.{Migration}
-use Rattle.bf_trackers.specs.Works.{IsWork, by_place}
+use Rattle.bf_trackers.specs.Ordered.{by_place}
+use Rattle.bf_trackers.specs.Works.{IsWork}
 use Rattle.bf_trackers.proofs.Works.{is_work}
 use Rattle.bf_trackers.proofs.work.Work.of.Goals as goal
 
