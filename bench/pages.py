@@ -21,8 +21,8 @@ PAGES = {
     "docs/EXAMPLES.md": "page_examples.cases",
     "docs/LANGUAGE.md": "page_language.cases",
 }
-# How a case runs a script over its log.
-RUN = "$ call run log"
+# How a case runs a script over its log: without workers, so that its report tells the same each time.
+RUN = "$ call run log --workers 0"
 LINK = re.compile(r"\((?:\.\./)?(examples/\w+\.sql)\)")
 
 
