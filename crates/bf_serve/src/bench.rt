@@ -178,7 +178,8 @@ impl<'r, 'g, N: Beginning<J>, J: Journal, R: Wait, G: Gate> Bench for Shared<'r,
                 Ok(Carried::Moved)
             }
             Ok(false) => {
-                self.free(seats, wip);
+                seats.free(self.rt, wip);
+                self.note_refused();
                 seats.note_refused();
                 Ok(Carried::Failed)
             }

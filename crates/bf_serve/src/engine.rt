@@ -79,6 +79,8 @@ pub struct Engine<N: Beginning<J>, J: Journal> {
     seat: Option<Seat<N>>,
     /// Where workers look next.
     cursor: Cursor,
+    /// How much had happened when the journal last refused a move.
+    refused: Option<u64>,
 }
 
 impl<N: Beginning<J>, J: Journal> Model for Engine<N, J> {
@@ -137,6 +139,7 @@ impl<N: Beginning<J>, J: Journal> Engine<N, J> {
             lookups: None,
             seat: None,
             cursor: Cursor::none(),
+            refused: None,
         }
     }
 
@@ -194,6 +197,12 @@ impl<N: Beginning<J>, J: Journal> Engine<N, J> {
         self.happened();
     }
 
+    /// Notes that granules are free again whose move was refused: workers look no further until more has happened.
+    pub(crate) fn note_refused(&mut self) {
+        self.happened();
+        self.refused = Some(self.count);
+    }
+
     /// A seat at the trackers of a migration, which are made where it has none yet, by what of it has moved. `None` where it is not
     /// the last one any more.
     ///
@@ -237,6 +246,9 @@ impl<N: Beginning<J>, J: Journal> Engine<N, J> {
         }
         if self.sessions == 0 {
             return Ok(Ahead::Ended);
+        }
+        if self.refused == Some(self.count) {
+            return Ok(Ahead::Wait(self.count));
         }
         let (Some(pass), Sweep::Running { unit, position, .. }) = (
             self.machine.migration(),

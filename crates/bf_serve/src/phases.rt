@@ -195,9 +195,11 @@ fn serve_machine<
     if served.is_err() {
         return (machine, journal, served);
     }
-    let served = in_order(alloc, rt, registry, &mut journal, &mut machine, &[]);
-    if served.is_err() || !crew.finish {
-        return (machine, journal, served);
+    let Ok(()) = in_order(alloc, rt, registry, &mut journal, &mut machine, &[]) else {
+        return (machine, journal, Err(Memory));
+    };
+    if !crew.finish {
+        return (machine, journal, Ok(()));
     }
     let finished = finish_migration(alloc, registry, &mut machine, &mut journal);
     (machine, journal, finished)

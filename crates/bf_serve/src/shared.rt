@@ -79,6 +79,12 @@ impl<'r, 'g, N: Beginning<J>, J: Journal, R: Wait, G: Gate> Shared<'r, 'g, N, J,
         self.wake();
     }
 
+    /// Notes that granules are free again whose move was refused.
+    pub(crate) fn note_refused(&self) {
+        self.engine.lock(self.rt).note_refused();
+        self.wake();
+    }
+
     /// Waits until more has happened than a count tells, or memory has run out.
     pub(crate) fn wait_for(&self, seen: u64) {
         let engine = self
