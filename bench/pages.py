@@ -22,7 +22,7 @@ PAGES = {
     "docs/EXAMPLES.md": "page_examples.cases",
     "docs/LANGUAGE.md": "page_language.cases",
 }
-# How a case runs a script over its log.
+# How a case runs a script over its log: without workers, so that its report tells the same each time.
 RUN = "call run log --workers 0"
 STEP = re.compile(r"<!-- ((?:only|call) .*) -->")
 LINK = re.compile(r"\((?:\.\./)?(examples/\w+\.sql)\)")

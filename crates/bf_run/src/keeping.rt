@@ -29,14 +29,13 @@ use crate::journal_laws::{
 use crate::log_journal::LogJournal;
 use crate::status::{Status, disk_fault, not_a_log_line};
 use bf_base::Memory;
-use bf_bench::OpenGate;
 use bf_disk::{Disk, DiskError, Shelf};
 use bf_image::Registry;
 use bf_log::{Log, OpenError};
 use bf_machine::Parts;
 use bf_machine::interleaving_laws::events_keep_all;
 use bf_recover::reopen;
-use bf_serve::{Crew, serve_script};
+use bf_serve::{Crew, OpenGate, serve_script};
 use bf_store::Store;
 use bf_tree::Script;
 use std::alloc::Global;

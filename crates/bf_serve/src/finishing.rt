@@ -5,8 +5,11 @@ ghost use Rattle.boxcar.specs.Table.{Shows};
 ghost use Rattle.bf_base.specs.Lists.{rises};
 ghost use Rattle.bf_image.specs.Migrations.{IsLawfulMigration, old_of, value_indexes};
 ghost use Rattle.bf_sql.specs.migrations.Granules.{granules_of};
+ghost use Rattle.bf_live.specs.Replies.{IsWellBound};
+ghost use Rattle.bf_transpose.specs.Covers.{needed_in};
 ghost use Rattle.bf_store.specs.States.{AreGranules, granule_cmp};
 ghost use Rattle.bf_store.specs.Stores.{migration_of};
+ghost use Rattle.bf_tree.specs.declared.bound.Action.TheVariants.{Migrate};
 ghost use Rattle.bf_machine.specs.interleaving.Calls.{HasSessionEnded, IsPlace};
 ghost use Rattle.bf_machine.specs.interleaving.Journals.{Keeps};
 ghost use Rattle.bf_serve.specs.Finishing.{HasFinished, HasMovedOrStopped};
@@ -17,6 +20,40 @@ use bf_machine::{Journal, Machine, MoveError, Opened, record_len};
 use bf_transpose::cover_of;
 use bf_tree::{Action, Bound};
 use std::alloc::Global;
+
+/// A further MIGRATE by the same plan, as it is bound.
+///
+/// # Errors
+/// Where memory runs out.
+fn migrated_again(alloc: Global, migration: &Migration) -> Result<Bound, Memory>
+    ensures { IfOk result (λ bound. bound.action ≡ Migrate migration.now.plan) }
+{
+    let plan = migration.plan.copy(alloc)?;
+    Ok(Bound {
+        catalog: 0,
+        schema_change: true,
+        action: Action::Migrate(plan),
+    })
+}
+
+/// The granules that a bound statement needs of a migration.
+///
+/// # Errors
+/// Where memory runs out.
+fn granules_for(
+    alloc: Global,
+    bound: &Bound,
+    migration: &Migration,
+    indexes: &ValueIndexes,
+) -> Result<Vec<Granule>, Memory>
+    requires bound { IsWellBound bound.now.action }
+    requires lawful { IsLawfulMigration migration.now }
+    requires indexed { indexes.now ≡ value_indexes migration.now }
+    ensures { IfOk result (λ all. all.items ≡ needed_in (Some migration.now) bound.now.action) }
+{
+    let cover = cover_of(alloc, bound, Some((migration, indexes)))?;
+    Ok(cover.granules)
+}
 
 /// All granules of a migration, in the order of unit and place: what a further MIGRATE would need
 /// of it. It takes time and memory linear in the old rows.
@@ -33,12 +70,10 @@ pub fn all_granules(
     ensures { IfOk result (λ all. all.items
         ≡ granules_of (old_of migration.now) migration.now.plan.migrate) }
 {
-    let bound = Bound {
-        catalog: 0,
-        schema_change: true,
-        action: Action::Migrate(migration.plan.copy(alloc)?),
-    };
-    Ok(cover_of(alloc, &bound, Some((migration, indexes)))?.granules)
+    let bound = migrated_again(alloc, migration)?;
+    let granules = granules_for(alloc, &bound, migration, indexes);
+    drop(bound);
+    granules
 }
 
 /// Moves granules of the last migration, in the order of unit and place, by records of at most 64
@@ -111,9 +146,9 @@ pub fn finish_migration<N: Opened, J: Journal>(
     if machine.is_complete() {
         return Ok(());
     }
-    let migration = registry.migration(&pass);
-    let indexes = ValueIndexes::of(alloc, migration)?;
-    let all = all_granules(alloc, migration, &indexes)?;
+    let last = registry.migration(&pass);
+    let indexes = ValueIndexes::of(alloc, last)?;
+    let all = all_granules(alloc, last, &indexes)?;
     let left = machine.need(alloc, all.as_slice())?;
     move_in_records(registry, machine, journal, &pass, &indexes, left.as_slice())
 }

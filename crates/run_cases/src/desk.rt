@@ -128,7 +128,7 @@ impl Desk {
     ) -> anyhow::Result<()> {
         let mut left = Desk::new(alloc);
         left.put(self.log()?.crash_at(alloc, call, torn)?)?;
-        left.call(rt, alloc, &["run", LOG], script, told)
+        left.call(rt, alloc, &["run", LOG, "--workers", "0"], script, told)
     }
 }
 

@@ -43,7 +43,13 @@ fn call_over_log(
     let mut made = String::new(alloc);
     desk.call(rt, alloc, &["create", LOG], "", &mut made)?;
     let apart = one_after_the_other(alloc, script)?;
-    desk.call(rt, alloc, &["run", LOG], apart.as_str(), told)
+    desk.call(
+        rt,
+        alloc,
+        &["run", LOG, "--workers", "0"],
+        apart.as_str(),
+        told,
+    )
 }
 
 /// Adds what is printed of a script, or what steps tell. Fails where over a log something else is printed.

@@ -87,7 +87,8 @@ fn one_held(alloc: Global, number: i64) -> Result<Stripe, Fail> {
     }
 }
 
-// Finishes a key by the second claim of another stripe, and answers the ticket under which it was held.
+// Finishes a key by the second claim of another stripe, and answers the ticket under which it was
+// held.
 fn finished_by_another(
     alloc: Global,
     stripe: &mut Stripe,
@@ -100,7 +101,8 @@ fn finished_by_another(
     }
 }
 
-// A claim of another stripe has another ticket for the key: it finds the state, and changes nothing.
+// A claim of another stripe has another ticket for the key: it finds the state, and changes
+// nothing.
 #[test]
 fn another_ticket_changes_nothing(rt: HostRuntime) -> Result<(), Fail> {
     let mut stripe = one_held(rt.alloc(), 2)?;
