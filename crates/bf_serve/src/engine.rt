@@ -277,9 +277,9 @@ impl<N: Beginning<J>, J: Journal> Engine<N, J> {
     {
         let Engine { machine, .. } = self;
         let _ = machine.script();
-        if machine.stand(session) != Stand::Abort {
+        let Stand::Abort = machine.stand(session) else {
             return;
-        }
+        };
         machine.abort(session);
     }
 

@@ -73,6 +73,8 @@ module _ {start : Database} (registry : Registry) (m : Machine) (kept : IsKept s
   needed granules step =
       let told = need_told m kept r.bound cover pass own enough number granules step in
       let are = of_pass m.lazy.last m.pass granules.items kept.store_valid.by_pass (may_move m kept r.bound cover pass own enough number granules.items told) in
-      let rise : IsTrue (rises granule_cmp granules.items) = subst (λ (gs : List Granule). IsTrue (rises granule_cmp gs)) (sym told) (left_rises m.lazy.last r.bound.action) in
-      (both {P = λ v. AreGranules (migration_of v []) granules.items} {Q = λ v. AreGranules (migration_of v []) granules.items × IsTrue (rises granule_cmp granules.items)}
-      r.at.migration m.pass ready.migration are (λ v so. (so, rise)), some granules step)
+      let rise : IsTrue (rises granule_cmp granules.items) = subst (λ (gs : List Granule). IsTrue (rises granule_cmp gs)) (sym told) (left_rises m.lazy.last r.bound.action) in (
+        both {P = λ v. AreGranules (migration_of v []) granules.items} {Q = λ v. AreGranules (migration_of v []) granules.items × IsTrue (rises granule_cmp granules.items)}
+            r.at.migration m.pass ready.migration are (λ v so. (so, rise)),
+        some granules step,
+      )

@@ -62,7 +62,7 @@ loop-left-preserved-in-Ok g c =
         one_record moved.2 own c.in-Ok.ensures.moves,
       );
       keeps = keeps_both g.J.Journal.Answers g.N.Opened.opening c.args.machine.now c.args.journal.now now c.loop-left.journal next c.moved.new.journal c.loop-left.invariant.keeps
-      (kept_move g.J.Journal.Answers g.N.Opened.opening now next c.loop-left.journal c.moved.new.journal own c.in-Ok.ensures.moves (c.in-Ok.ensures.beside (λ cause same. cc)));
+          (kept_move g.J.Journal.Answers g.N.Opened.opening now next c.loop-left.journal c.moved.new.journal own c.in-Ok.ensures.moves (c.in-Ok.ensures.beside (λ cause same. cc)));
     }
 
 pub returns-in-Err-Ended-clause-keeps : goal.returns-in-Err-Ended-clause-keeps

@@ -7,4 +7,4 @@ use Rattle.bf_serve.proofs.phases.serve_script.Goals as goal
 pub returns : goal.returns
 returns g c =
     let come = c.serve_over.ensures.come in
-    record { keeps = (come.0, from_beginning g.J.Journal.Answers (view_of c.args.store.lazy) (fresh g.J.Journal.ends c.args.store c.args.script c.args.crew.retries) c.args.journal come.0 _ come.1, come.2) }
+    record { keeps = (come.0, from_beginning g.J.Journal.Answers (view_of c.args.store.lazy) (fresh g.J.Journal.ends c.args.store c.args.script c.args.crew.retries) c.args.journal come.0 _ come.1, come.2, come.3); migration = c.serve_over.ensures.migration }

@@ -9,4 +9,4 @@ ghosts-serve_over-N-Opened g a = record { opening = view_of a.store.lazy; regist
 
 -- with the new machine over them, beside the journal that was given
 abbrev pub ghosts-serve_over-N-Beginning : goal.ghosts-serve_over-N-Beginning
-ghosts-serve_over-N-Beginning g a = record { begins = λ m j. (m ≡ fresh g.J.Journal.ends a.store a.script a.retries) × (j ≡ a.journal) }
+ghosts-serve_over-N-Beginning g a = record { begins = λ m j. (m ≡ fresh g.J.Journal.ends a.store a.script a.crew.retries) × (j ≡ a.journal) }
