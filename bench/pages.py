@@ -6,8 +6,9 @@
 
 In a page each block ```sql is a script, and the block ```text behind it its report; a last line
 `status N` in that is the program's status, where it is not 0. From a line `<!-- one log -->` to a line
-`<!-- end -->` the scripts run one after the other over one log. A script below a line that links to a
-file of examples/ is that file.
+`<!-- end -->` the scripts run one after the other over one log, without workers; a line `<!-- only .. -->`
+or `<!-- call .. -->` is the step of the next script in place of that (`run_cases` has the steps). A script
+below a line that links to a file of examples/ is that file.
 """
 
 import re
@@ -22,16 +23,18 @@ PAGES = {
     "docs/LANGUAGE.md": "page_language.cases",
 }
 # How a case runs a script over its log: without workers, so that its report tells the same each time.
-RUN = "$ call run log --workers 0"
+RUN = "call run log --workers 0"
+STEP = re.compile(r"<!-- ((?:only|call) .*) -->")
 LINK = re.compile(r"\((?:\.\./)?(examples/\w+\.sql)\)")
 
 
 class Page:
-    """The cases of a page, each a title with pairs of a script and its report, and what is wrong with it."""
+    """The cases of a page, each a title with triples of a step, a script and its report, and what is wrong with it."""
 
     def __init__(self, name):
         self.name, self.cases, self.wrong, self.files = name, [], [], set()
         self.heading, self.counts, self.link, self.script, self.is_one_log = "", {}, None, None, False
+        self.step = RUN
         lines = iter((TOP / name).read_text().splitlines())
         for line in lines:
             if line.startswith("```"):
@@ -46,6 +49,8 @@ class Page:
                 self.cases.append((self.title(), True, []))
             elif line == "<!-- end -->":
                 self.is_one_log = False
+            elif STEP.fullmatch(line):
+                self.step = STEP.fullmatch(line).group(1)
             elif line.startswith("#"):
                 self.heading = line.lstrip("# ")
             found = LINK.findall(line)
@@ -73,16 +78,16 @@ class Page:
         elif kind == "text" and self.script is not None:
             if not self.is_one_log:
                 self.cases.append((self.title(), False, []))
-            self.cases[-1][2].append((self.script, text))
-            self.script = None
+            self.cases[-1][2].append((self.step, self.script, text))
+            self.step, self.script = RUN, None
 
     def text(self):
         """The file of these cases."""
         parts = []
         for title, is_one_log, pairs in self.cases:
-            steps = [f"{RUN}\n{script}" for script, _ in pairs]
-            shown = "\n".join(["$ call create log", *steps]) if is_one_log else pairs[0][0] + "\n"
-            told = "\n".join(["created", *[report for _, report in pairs]]) if is_one_log else pairs[0][1]
+            steps = [f"$ {step}\n{script}" for step, script, _ in pairs]
+            shown = "\n".join(["$ call create log", *steps]) if is_one_log else pairs[0][1] + "\n"
+            told = "\n".join(["created", *[report for _, _, report in pairs]]) if is_one_log else pairs[0][2]
             parts.append(f"=== {title}\n{shown}\n---\n{told}\n")
         return "".join(parts)
 
