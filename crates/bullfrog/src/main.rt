@@ -1,4 +1,5 @@
-//! `bullfrog run LOG` runs the script of standard input over the database that a log keeps, and prints its report;
+//! `bullfrog run LOG [--workers N] [--retries N] [--finish] [--audit]` runs the script of standard input over the database
+//! that a log keeps, and prints its report;
 //! `bullfrog try` does over an empty database, which is not kept; `bullfrog create LOG` makes an empty log in a file
 //! that is new or empty.
 #![tactic(auto)]
