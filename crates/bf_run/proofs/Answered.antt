@@ -17,7 +17,7 @@ use Rattle.bf_tree.specs.declared.script.Script.{Script}
 use Rattle.bf_run.specs.Outcome.{RunClaim, HoldsAsked, Stream, IsCalm, IsUnread, IsUntouched, ComesOfFile, ComesOfInput, ComesOfLog, ComesOfRun, IsAnswer, IsTextOf, fault_text}
 use Rattle.bf_run.specs.Top.{HasRead, IsInputAnswer, IsNoScript, IsScriptOf, IsTextOfRun}
 use Rattle.bf_run.specs.Untold.{ReadsLog}
-use Rattle.bf_run.specs.Words.{Asked, creating, running, trying}
+use Rattle.bf_words.specs.Words.{Asked, Options, creating, running, trying}
 
 -- what follows of two facts of a value, if there is one
 pub of_both : {X E : Type 0} (r : Result X E) (P Q R : X → Type 0) → ((x : X) → P x → Q x → R x) → IfOk r P → IfOk r Q → IfOk r R
@@ -107,9 +107,9 @@ module _ (input : Stream) (bytes : List ℕ) where
   none_run path shelf Memory text untouched is = absurd is
 
   -- and of one that was run
-  module _ {V : Type 0} (path : List ℕ) (retries : ℕ) (shelf : Shelving V) (script : Script) (comes : ComesOfInput input bytes Done) (reads : IsScriptText bytes (Ok script)) where
-    pub ran_over : (status : Status) (text : List ℕ) → ComesOfLog path shelf status → IsTextOfRun retries (HoldsAsked (Some (running path retries)) shelf) (ReadsLog shelf path) script status text
-        → ComesOfRun path input bytes shelf status × IsTextOf (Some (running path retries)) (HoldsAsked (Some (running path retries)) shelf) (ReadsLog shelf path) bytes status text
+  module _ {V : Type 0} (path : List ℕ) (options : Options) (shelf : Shelving V) (script : Script) (comes : ComesOfInput input bytes Done) (reads : IsScriptText bytes (Ok script)) where
+    pub ran_over : (status : Status) (text : List ℕ) → ComesOfLog path shelf status → IsTextOfRun options (HoldsAsked (Some (running path options)) shelf) (ReadsLog shelf path) script status text
+        → ComesOfRun path input bytes shelf status × IsTextOf (Some (running path options)) (HoldsAsked (Some (running path options)) shelf) (ReadsLog shelf path) bytes status text
     ran_over Done text log told = ((comes, log), (script, reads, told))
     ran_over DiskFault text log (inl fault) = ((comes, log), inl fault)
     ran_over DiskFault text log (inr told) = ((comes, log), inr (script, reads, told))
@@ -137,24 +137,24 @@ module _ {V : Type 0} (input : Stream) (shelf : Shelving V) where
       (record { bytes = given.bytes; are_told = given.are_told; causes = given.causes; is_text = given.is_text })
 
   -- a run over a log, of a script or of none
-  pub of_run : (path : List ℕ) (retries : ℕ) (script : Script) (status : Status) (text : List ℕ) → HasRead input (Ok script) → ComesOfLog path shelf status
-      → IsTextOfRun retries (HoldsAsked (Some (running path retries)) shelf) (ReadsLog shelf path) script status text → IsAnswer (Some (running path retries)) input shelf status text
-  of_run path retries script status text read log told =
-      let both = ran_over input read.bytes path retries shelf script read.is_read.0 read.is_read.1 status text log told in
+  pub of_run : (path : List ℕ) (options : Options) (script : Script) (status : Status) (text : List ℕ) → HasRead input (Ok script) → ComesOfLog path shelf status
+      → IsTextOfRun options (HoldsAsked (Some (running path options)) shelf) (ReadsLog shelf path) script status text → IsAnswer (Some (running path options)) input shelf status text
+  of_run path options script status text read log told =
+      let both = ran_over input read.bytes path options shelf script read.is_read.0 read.is_read.1 status text log told in
       record { bytes = read.bytes; are_told = read.are_told; causes = both.0; is_text = both.1 }
 
-  pub of_none_run : (path : List ℕ) (retries : ℕ) (told : Status × Vec ℕ) → HasRead input (Err told) → IsUntouched shelf
-      → IsAnswer (Some (running path retries)) input shelf told.0 told.1.items
-  of_none_run path retries told read untouched = record {
+  pub of_none_run : (path : List ℕ) (options : Options) (told : Status × Vec ℕ) → HasRead input (Err told) → IsUntouched shelf
+      → IsAnswer (Some (running path options)) input shelf told.0 told.1.items
+  of_none_run path options told read untouched = record {
     bytes = read.bytes;
     are_told = read.are_told;
     causes = none_run input read.bytes path shelf told.0 told.1.items untouched read.is_read;
-    is_text = (no_script input read.bytes (Some (running path retries)) (HoldsAsked (Some (running path retries)) shelf) (ReadsLog shelf path) told.0 told.1.items read.is_read).1;
+    is_text = (no_script input read.bytes (Some (running path options)) (HoldsAsked (Some (running path options)) shelf) (ReadsLog shelf path) told.0 told.1.items read.is_read).1;
   }
 
-  pub of_running : (asks : Option Asked) (path : List ℕ) (retries : ℕ) (status : Status) (text : List ℕ) → Some (running path retries) ≡ asks
-      → IsAnswer (Some (running path retries)) input shelf status text → IsAnswer asks input shelf status text
-  of_running asks path retries status text run given = subst (λ (a : Option Asked). IsAnswer a input shelf status text) run given
+  pub of_running : (asks : Option Asked) (path : List ℕ) (options : Options) (status : Status) (text : List ℕ) → Some (running path options) ≡ asks
+      → IsAnswer (Some (running path options)) input shelf status text → IsAnswer asks input shelf status text
+  of_running asks path options status text run given = subst (λ (a : Option Asked). IsAnswer a input shelf status text) run given
 
   pub of_file : (asks : Option Asked) (path : List ℕ) (status : Status) (text : List ℕ) → Some (creating path) ≡ asks → IsUnread input
       → ComesOfFile path shelf status → ((bytes : List ℕ) → IsTextOf (Some (creating path)) (λ status script start history ended last. ⊥) (Unit {0}) bytes status text)

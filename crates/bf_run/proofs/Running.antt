@@ -24,7 +24,7 @@ use Rattle.bf_run.specs.Outcome.{ComesOfLog, RunClaim, HoldsAsked, IsRunTold}
 use Rattle.bf_run.specs.Running.{IsLogOf, IsRefusedLog, KeepsOthers, Opens, OpensTo}
 use Rattle.bf_run.specs.Top.{HoldsOver, IsOpenErrorTold, IsOpened, IsRunOverDisk, IsServed, IsTextOfRun}
 use Rattle.bf_run.specs.Untold.{IsLogBrokenOff, IsReadAtMost, IsReadLog, IsUntold, LeavesUntold, ReadsLog}
-use Rattle.bf_run.specs.Words.{running}
+use Rattle.bf_words.specs.Words.{Options, running}
 use Rattle.bf_run.proofs.NewLogs.{where_held}
 
 -- what is held is as it was
@@ -56,16 +56,16 @@ if_told (Some file) P each = each file refl
 
 -- one disk
 module _ {V : Type 0} (seen : V → Option (List ℕ)) (may_leave : V → List ℕ → Type 0) (moment : V → ℕ) (left_since : V → ℕ → List ℕ → Type 0) (fault_count : V → ℕ)
-    (retries : ℕ) (script : Script) (disk now : V) where
-  pub served : (Served : RunClaim) (before after : ℕ) (status : Status) (text : List ℕ) → IsServed retries Served script before after status text
+    (options : Options) (script : Script) (disk now : V) where
+  pub served : (Served : RunClaim) (before after : ℕ) (status : Status) (text : List ℕ) → IsServed options Served script before after status text
       → before ≡ fault_count disk → after ≡ fault_count now
       → ((status : Status) (start : Database) (history : List Entry) (ended : List EndedGroup) (last : LazyState) → Served status script start history ended last
       → HoldsOver seen may_leave moment left_since fault_count disk now status script start history ended last)
-      → IsRunOverDisk seen may_leave moment left_since fault_count retries script disk now status text
+      → IsRunOverDisk seen may_leave moment left_since fault_count options script disk now status text
   served Served before after status text is first last so = by status is
     where
-      told : (status : Status) → IsRunTold retries (Served status script) script text
-          → IsRunTold retries (HoldsOver seen may_leave moment left_since fault_count disk now status script) script text
+      told : (status : Status) → IsRunTold options (Served status script) script text
+          → IsRunTold options (HoldsOver seen may_leave moment left_since fault_count disk now status script) script text
       told status run = record {
         start = run.start;
         transcripts = run.transcripts;
@@ -78,7 +78,7 @@ module _ {V : Type 0} (seen : V → Option (List ℕ)) (may_leave : V → List �
         report_written = run.report_written;
       }
 
-      by : (status : Status) → IsServed retries Served script before after status text → IsRunOverDisk seen may_leave moment left_since fault_count retries script disk now status text
+      by : (status : Status) → IsServed options Served script before after status text → IsRunOverDisk seen may_leave moment left_since fault_count options script disk now status text
       by Done is = (told Done is.0, omega (arith, is.1, first, last))
       by DiskFault is = (inr (told DiskFault is.0), omega (arith, is.1, first, last))
       by Usage is = absurd is
@@ -96,12 +96,12 @@ module _ {V : Type 0} (seen : V → Option (List ℕ)) (may_leave : V → List �
   pub not_opened : (error : OpenError) (status : Status) (text : List ℕ) → IsOpenErrorTold error status text
       → ((at : ℕ) → error ≡ errors.NotALog at → (file : List ℕ) → seen disk ≡ Some file → RefusedAt first_state StepsTo file at × Only file (may_leave now))
       → OnlyRead seen may_leave moment left_since disk now → RisesIf (is_open_fault error) (fault_count disk) (fault_count now)
-      → IsRunOverDisk seen may_leave moment left_since fault_count retries script disk now status text
+      → IsRunOverDisk seen may_leave moment left_since fault_count options script disk now status text
   not_opened (errors.NotALog at) status text told refused read counts =
-      subst (λ (s : Status). IsRunOverDisk seen may_leave moment left_since fault_count retries script disk now s text) (sym told.0)
+      subst (λ (s : Status). IsRunOverDisk seen may_leave moment left_since fault_count options script disk now s text) (sym told.0)
       (told.1, if_told (seen disk) _ (λ file is. (refused at refl file is).0), read, omega (arith, counts))
   not_opened errors.DiskFault status text told refused read counts =
-      subst (λ (s : Status). IsRunOverDisk seen may_leave moment left_since fault_count retries script disk now s text) (sym told.0) (inl (told.1, inr read), counts.0)
+      subst (λ (s : Status). IsRunOverDisk seen may_leave moment left_since fault_count options script disk now s text) (sym told.0) (inl (told.1, inr read), counts.0)
   not_opened errors.Memory status text told refused read counts = absurd told
 
 module _ {V : Type 0} (shelf : Shelving V) (path : List ℕ) (mid : Option (ByPath V)) (disk now : V)
@@ -157,10 +157,10 @@ module _ {V : Type 0} (shelf : Shelving V) (path : List ℕ) (mid : Option (ByPa
   opens start told = where_held shelf.seen shelf.may_leave path disk now (λ old new. IsLogOf shelf start old)
       shelf.held mid shelf.held_after given away back (λ was held. (disk, held, told))
 
-  module _ (retries : ℕ) (script : Script) (none : shelf.disk_faults now ≤ shelf.disk_faults disk → CountsNone shelf) (one : Rose (shelf.disk_faults disk) (shelf.disk_faults now) → CountsOne shelf) where
+  module _ (options : Options) (script : Script) (none : shelf.disk_faults now ≤ shelf.disk_faults disk → CountsNone shelf) (one : Rose (shelf.disk_faults disk) (shelf.disk_faults now) → CountsOne shelf) where
     over : (status : Status) (text : List ℕ)
-        → IsRunTold retries (HoldsOver shelf.seen shelf.may_leave shelf.moment shelf.left_since shelf.disk_faults disk now status script) script text
-        → IsRunTold retries (HoldsAsked (Some (running path retries)) shelf status script) script text
+        → IsRunTold options (HoldsOver shelf.seen shelf.may_leave shelf.moment shelf.left_since shelf.disk_faults disk now status script) script text
+        → IsRunTold options (HoldsAsked (Some (running path options)) shelf status script) script text
     over status text told = record {
       start = told.start;
       transcripts = told.transcripts;
@@ -178,8 +178,8 @@ module _ {V : Type 0} (shelf : Shelving V) (path : List ℕ) (mid : Option (ByPa
       report_written = told.report_written;
     }
 
-    pub comes : (status : Status) (text : List ℕ) → IsRunOverDisk shelf.seen shelf.may_leave shelf.moment shelf.left_since shelf.disk_faults retries script disk now status text
-        → ComesOfLog path shelf status × IsTextOfRun retries (HoldsAsked (Some (running path retries)) shelf) (ReadsLog shelf path) script status text
+    pub comes : (status : Status) (text : List ℕ) → IsRunOverDisk shelf.seen shelf.may_leave shelf.moment shelf.left_since shelf.disk_faults options script disk now status text
+        → ComesOfLog path shelf status × IsTextOfRun options (HoldsAsked (Some (running path options)) shelf) (ReadsLog shelf path) script status text
     comes Done text is = ((none is.1, (is.0.start, opens is.0.start is.0.holds.0)), over Done text is.0)
     comes DiskFault text (inl fault, rose) = (one rose, inl (fault.0, reads fault.1))
     comes DiskFault text (inr told, rose) = (one rose, inr (over DiskFault text told))

@@ -17,7 +17,7 @@ use Rattle.bf_run.specs.declared.status.Status.TheVariants.{Done, Usage, Script 
 use Rattle.bf_run.specs.Creating.{Shelving, WhereHeld, IsEmptyFile, IsNewLog, HasBytes, TellsFiles}
 use Rattle.bf_run.specs.Outcome.{Stream, IsScript, IsDetermined, Comes, ComesOfWords, ComesOfInput, ComesOfFile, ComesOfRun}
 use Rattle.bf_run.specs.Running.{IsLogOf, IsRefusedLog, IsTaken, OpensTo}
-use Rattle.bf_run.specs.Words.{Asked, creating, running, trying}
+use Rattle.bf_words.specs.Words.{Asked, creating, running, trying}
 use Rattle.bf_run.proofs.one.Reading.{one_fault, not_both}
 
 -- of words that ask for nothing
@@ -267,5 +267,5 @@ one_status None input bytes shelf held_after faults_after one other tells d e p 
 one_status (Some trying) input bytes shelf held_after faults_after one other tells d e p q = one_of_input input bytes one other d e p q
 one_status (Some (creating path)) input bytes shelf held_after faults_after one other tells d e p q =
     one_of_file shelf path tells held_after faults_after one other d e p.1 q.1
-one_status (Some (running path retries)) input bytes shelf held_after faults_after one other tells d e p q =
+one_status (Some (running path options)) input bytes shelf held_after faults_after one other tells d e p q =
     one_of_run shelf path tells held_after faults_after input bytes one other d e p q

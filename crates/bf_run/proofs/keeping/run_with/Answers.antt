@@ -9,6 +9,7 @@ use Rattle.bf_sql.specs.Database.{Database}
 use Rattle.bf_sql.specs.migrations.Lazy.{LazyState, view_of}
 use Rattle.bf_tree.specs.declared.history.Entry.{Entry}
 use Rattle.bf_machine.specs.interleaving.Machines.{EndedGroup}
+use Rattle.bf_run.specs.Words.{asked_options}
 use Rattle.bf_run.specs.declared.status.Status.{Status}
 use Rattle.bf_run.specs.Keeping.{CouldBeLeft}
 use Rattle.bf_run.specs.Top.{HoldsOver, IsOpened, ServedOn}
@@ -38,7 +39,7 @@ returns-in-Ok-clause-told g c =
     let holds : (status : Status) (start : Database) (history : List Entry) (ended : List EndedGroup) (last : LazyState) → ServedOn (view_of lazy) c.in-Ok.log now status c.args.script start history ended last
     → HoldsOver Disk.seen Disk.may_leave Disk.moment Disk.left_since Disk.fault_count disk now status c.args.script start history ended last = λ status start history ended last is. (
       subst (IsOpened Disk.seen Disk.may_leave Disk.moment Disk.left_since Disk.fault_count disk) (sym is.0)
-          (opened_to Disk.seen Disk.may_leave Disk.moment Disk.left_since Disk.fault_count c.args.retries c.args.script disk now lazy opened.gives),
+          (opened_to Disk.seen Disk.may_leave Disk.moment Disk.left_since Disk.fault_count (asked_options c.args.options) c.args.script disk now lazy opened.gives),
       if_told (Disk.seen now) _
           (λ file told. record {
             failed = is.1.0;
@@ -49,13 +50,13 @@ returns-in-Ok-clause-told g c =
       is.3,
     ) in
     IfOk-weaker c.serve_over.result.1 _ _
-    (λ a is. served Disk.seen Disk.may_leave Disk.moment Disk.left_since Disk.fault_count c.args.retries c.args.script disk now (ServedOn {g = Disk} (view_of lazy) c.in-Ok.log now) _ _ a.0 a.1.items is c.in-Ok.ensures.faults refl holds)
+    (λ a is. served Disk.seen Disk.may_leave Disk.moment Disk.left_since Disk.fault_count (asked_options c.args.options) c.args.script disk now (ServedOn {g = Disk} (view_of lazy) c.in-Ok.log now) _ _ a.0 a.1.items is c.in-Ok.ensures.faults refl holds)
     c.serve_over.ensures.served
 
 pub returns-in-Err-clause-told : goal.returns-in-Err-clause-told
 returns-in-Err-clause-told g c =
     IfOk-weaker c.tell_open_error.result _ _
-    (λ a is. not_opened g.D.Disk.seen g.D.Disk.may_leave g.D.Disk.moment g.D.Disk.left_since g.D.Disk.fault_count c.args.retries c.args.script c.args.disk c.in-Err.disk c.in-Err.error a.0 a.1.items is c.in-Err.ensures.refused c.in-Err.ensures.disk c.in-Err.ensures.faults)
+    (λ a is. not_opened g.D.Disk.seen g.D.Disk.may_leave g.D.Disk.moment g.D.Disk.left_since g.D.Disk.fault_count (asked_options c.args.options) c.args.script c.args.disk c.in-Err.disk c.in-Err.error a.0 a.1.items is c.in-Err.ensures.refused c.in-Err.ensures.disk c.in-Err.ensures.faults)
     c.tell_open_error.ensures
 
 pub serve_over-requires-clause-stands : goal.serve_over-requires-clause-stands
@@ -82,7 +83,7 @@ returns-in-Ok-clause-untold g c =
       | inl same ↦ inl (inr (subst (OnlyRead Disk.seen Disk.may_leave Disk.moment Disk.left_since disk) (sym same) c.in-Ok.ensures.disk))
       | inr run ↦ inr (record {
         start = view_of lazy;
-        opens = opened_to Disk.seen Disk.may_leave Disk.moment Disk.left_since Disk.fault_count c.args.retries c.args.script disk now lazy opened.gives;
+        opens = opened_to Disk.seen Disk.may_leave Disk.moment Disk.left_since Disk.fault_count (asked_options c.args.options) c.args.script disk now lazy opened.gives;
         history = run.0;
         groups = run.1;
         kept = if_told (Disk.seen now) _

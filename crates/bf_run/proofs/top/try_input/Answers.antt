@@ -1,6 +1,6 @@
 use Rattle.std.proofs.Common.{Some, subst}
 use Rattle.bf_run.specs.Top.{HasRead}
-use Rattle.bf_run.specs.Words.{trying}
+use Rattle.bf_words.specs.Words.{trying}
 use Rattle.bf_run.proofs.Answered.{no_script}
 use Rattle.bf_run.proofs.Migrates.{script_within}
 use Rattle.bf_run.proofs.Parsed.{script_rises}
