@@ -14,6 +14,7 @@ pub mod Replied
 pub mod Running
 pub mod Sayable
 pub mod Serving
+pub mod Settling
 pub mod Sizing
 pub mod Stating
 pub mod Telling

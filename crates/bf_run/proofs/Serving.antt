@@ -74,7 +74,7 @@ module _ {D : Type 0} {g : Ghosts D} (options : Options) (store : Store) (script
         let own = own_script in
         let ended = ended_on_log keeps in
         let replays : view_of now.lazy ≡ (replayed script (view_of store.lazy) now.history).1 =
-            kept.store_valid.seen_as.view ∙ subst (λ (s : Script). now.db ≡ (replayed s (view_of store.lazy) now.history).1) own kept.history_legal.replay in
+        kept.store_valid.seen_as.view ∙ subst (λ (s : Script). now.db ≡ (replayed s (view_of store.lazy) now.history).1) own kept.history_legal.replay in
         let sized : AreSizesOf (view_of store.lazy) script now.history ended = subst (λ (s : Script). AreSizesOf (view_of store.lazy) s now.history ended) own sizes in
         record {
           start = view_of store.lazy;

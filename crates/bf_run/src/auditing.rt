@@ -26,7 +26,9 @@ fn count_rows(alloc: Global, live: &LiveTables) -> Result<Vec<(Name, u32)>, Memo
 {
     let mut counts = Vec::new(alloc);
     for table in live.catalog().tables() {
-        counts.push((table.name.copy(alloc)?, live.row_count(&table.name)))?;
+        let name = table.name.copy(alloc)?;
+        let rows = live.row_count(&table.name);
+        counts.push((name, rows))?;
     }
     Ok(counts)
 }
@@ -40,15 +42,17 @@ fn settle(alloc: Global, registry: &Registry, store: &mut Store) -> Result<(), M
     requires { IsOf registry.now store.old.migration }
     ensures { OnOk result (store.new.lazy.live ≡ view_of store.old.lazy) }
 {
+    // Its contract says what is true of a store's state.
+    let _ = store.live();
     let Some(pass) = store.migration() else {
         return Ok(());
     };
-    if matches!(store.sweep(), Sweep::Complete { .. }) {
+    let Sweep::Running { .. } = store.sweep() else {
         return Ok(());
-    }
-    let migration = registry.migration(&pass);
-    let indexes = ValueIndexes::of(alloc, migration)?;
-    let all = all_granules(alloc, migration, &indexes)?;
+    };
+    let last = registry.migration(&pass);
+    let indexes = ValueIndexes::of(alloc, last)?;
+    let all = all_granules(alloc, last, &indexes)?;
     store.move_granules(registry, &indexes, all.as_slice())?;
     Ok(())
 }

@@ -30,7 +30,7 @@ returns-clause-come g c =
     let served = c.in_order in
     let finished = c.finish_migration-finished in
     let come =
-        comes_on g.J.Journal.Answers g.N.Opened.opening g.N.Beginning.begins parts.0 parts.1 served.new.machine served.new.journal c.into_parts-machine.ensures served.ensures.keeps in
+    comes_on g.J.Journal.Answers g.N.Opened.opening g.N.Beginning.begins parts.0 parts.1 served.new.machine served.new.journal c.into_parts-machine.ensures served.ensures.keeps in
     comes_on g.J.Journal.Answers g.N.Opened.opening g.N.Beginning.begins served.new.machine served.new.journal finished.new.machine finished.new.journal come finished.ensures.keeps
 
 pub returns-clause-ended : goal.returns-clause-ended
@@ -38,8 +38,8 @@ returns-clause-ended g c =
     let served = c.in_order in
     let finished = c.finish_migration-finished in
     let same : finished.new.machine.script ≡ served.new.machine.script =
-        reached_script g.N.Opened.opening served.new.machine finished.new.machine
-        (keeps_reach g.J.Journal.Answers g.N.Opened.opening served.new.machine served.new.journal finished.new.machine finished.new.journal finished.ensures.keeps) in
+    reached_script g.N.Opened.opening served.new.machine finished.new.machine
+    (keeps_reach g.J.Journal.Answers g.N.Opened.opening served.new.machine served.new.journal finished.new.machine finished.new.journal finished.ensures.keeps) in
     on_ok finished.result (λ s place.
-        let was = subst (λ (script : Script). IsPlace script s) same place in
-        finished.ensures.ended s was (c.in-Ok.ensures.answered s was))
+    let was = subst (λ (script : Script). IsPlace script s) same place in
+    finished.ensures.ended s was (c.in-Ok.ensures.answered s was))
