@@ -1,2 +1,3 @@
+mod Crossed
 mod Placed
 mod Standing

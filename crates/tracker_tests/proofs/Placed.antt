@@ -4,7 +4,6 @@ use Rattle.bf_base.specs.declared.granule.Granule.{Granule}
 use Rattle.bf_base.specs.declared.granule.Place.TheVariants.{Row, Group}
 use Rattle.bf_base.specs.declared.value.Value.{Value}
 use Rattle.bf_trackers.specs.Units.{HasPlace, IsPlaceOf, shape_of}
-use Rattle.bf_trackers.specs.declared.units.Shape.{Shape}
 use Rattle.bf_trackers.specs.declared.units.Shape.TheVariants.{Rows, Keys}
 use Rattle.bf_trackers.specs.declared.units.UnitTracker.{UnitTracker}
 
