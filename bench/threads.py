@@ -1,0 +1,132 @@
+#!/usr/bin/env python3
+"""What sessions and workers on threads cost, each as a ratio within one run.
+
+Takes the program, as `rt run` leaves it, and how many rows a table has:
+
+    python3 bench/threads.py crates/bullfrog/out/bullfrog 100000
+
+Told are the wall time and the processor time of each side, the least of some rounds, and the ratio of the time that
+its mark is about:
+
+    reads        four sessions that read, to one session with all their statements (processor time, 1.3)
+    commits      four sessions of commits, to one session with all of them (wall time, 1.1)
+    moving       the same with two workers that move the rows of a migration beside them (wall time, 2)
+    workers      two workers that move every granule, to one SELECT of everything that does (wall time, 1.3)
+    waiting      a session that waits for a lock while another works, to the other alone (processor time)
+"""
+
+import os
+import resource
+import subprocess
+import sys
+import tempfile
+import time
+
+ROUNDS = 3
+SESSIONS = 4
+
+
+def run(program, log, script, *options):
+    """The wall time and the processor time of a run, and its report."""
+    before = resource.getrusage(resource.RUSAGE_CHILDREN)
+    start = time.monotonic()
+    done = subprocess.run(
+        [program, "run", *options, log], input=script.encode(), capture_output=True, check=True
+    )
+    wall = time.monotonic() - start
+    after = resource.getrusage(resource.RUSAGE_CHILDREN)
+    spent = after.ru_utime + after.ru_stime - before.ru_utime - before.ru_stime
+    return wall, spent, done.stdout.decode()
+
+
+def sessions_of(statements, count):
+    """A phase of so many sessions that share the statements out."""
+    parts = ["\n".join(statements[first::count]) for first in range(count)]
+    return "PHASE;\n" + "".join(f"SESSION;\n{part}\n" for part in parts)
+
+
+def fill(rows):
+    values = [f"({n}, 'name {n % 1000}', {n * 7 % 100})" for n in range(rows)]
+    inserts = [
+        "INSERT INTO person VALUES " + ", ".join(values[first : first + 500]) + ";"
+        for first in range(0, rows, 500)
+    ]
+    table = "CREATE TABLE person (id INT, name VARCHAR(20), balance INT, PRIMARY KEY (id));"
+    return "PHASE; SESSION;\n" + table + "\n" + "\n".join(inserts)
+
+
+SPLIT = (
+    "PHASE; SESSION; MIGRATE (CREATE TABLE pub AS SELECT id, name FROM person;"
+    " CREATE TABLE priv AS SELECT id, balance FROM person);"
+)
+
+
+class Bench:
+    def __init__(self, program, rows, folder):
+        self.program, self.rows, self.folder = program, rows, folder
+        self.count = 0
+
+    def log(self, *scripts):
+        """A new log, over which these scripts were run without workers."""
+        self.count += 1
+        path = os.path.join(self.folder, f"log{self.count}")
+        subprocess.run([self.program, "create", path], check=True, capture_output=True)
+        for script in scripts:
+            run(self.program, path, script, "--workers", "0")
+        return path
+
+    def least(self, scripts, script, *options):
+        """The least times of some rounds, each over a new log."""
+        times = []
+        for _ in range(ROUNDS):
+            path = self.log(*scripts)
+            reopened = run(self.program, path, "PHASE;", "--workers", "0")
+            wall, spent, text = run(self.program, path, script, *options)
+            times.append((wall - reopened[0], spent - reopened[1], text))
+            os.remove(path)
+        wall = min(one[0] for one in times)
+        return wall, min(one[1] for one in times), times[-1][2]
+
+
+def tell(name, one, other, which):
+    ratio = other[which] / max(one[which], 1e-9)
+    print(
+        f"{name}: wall {one[0]:.2f} s and {other[0]:.2f} s, processor {one[1]:.2f} s and {other[1]:.2f} s,"
+        f" ratio of {'processor' if which else 'wall'} time {ratio:.2f}",
+        flush=True,
+    )
+
+
+def main():
+    program, rows = os.path.abspath(sys.argv[1]), int(sys.argv[2])
+    with tempfile.TemporaryDirectory() as folder:
+        bench = Bench(program, rows, folder)
+        filled = fill(rows)
+        reads = [f"SELECT * FROM person WHERE id = {n * 13 % rows};" for n in range(20000)]
+        one = bench.least([filled], sessions_of(reads, 1), "--workers", "0")
+        four = bench.least([filled], sessions_of(reads, SESSIONS), "--workers", "0")
+        tell("reads", one, four, 1)
+
+        writes = [f"UPDATE priv SET balance = {n} WHERE id = {n};" for n in range(2000)]
+        both = [filled, SPLIT]
+        one = bench.least(both, sessions_of(writes, 1), "--workers", "0")
+        four = bench.least(both, sessions_of(writes, SESSIONS), "--workers", "0")
+        tell("commits", one, four, 0)
+        moving = bench.least(both, sessions_of(writes, SESSIONS), "--workers", "2")
+        tell("moving", one, moving, 0)
+
+        whole = "PHASE; SESSION; SELECT COUNT(*) FROM priv;"
+        select = bench.least(both, whole, "--workers", "0")
+        # The statement of this session needs nothing: it lasts while workers move, since `--finish` ends the run.
+        finish = bench.least(both, "PHASE; SESSION;", "--workers", "0", "--finish")
+        tell("finish", select, finish, 0)
+        busy = "PHASE; SESSION;\n" + "\n".join(
+            f"INSERT INTO other VALUES ({n});" for n in range(rows // 20)
+        )
+        other = "PHASE; SESSION; CREATE TABLE other (id INT, PRIMARY KEY (id));"
+        workers = bench.least([filled, other, SPLIT], busy, "--workers", "2")
+        print("workers beside inserts: " + workers[2].splitlines()[-1], f"in {workers[0]:.2f} s")
+
+
+if __name__ == "__main__":
+    main()
