@@ -11,8 +11,8 @@ its mark is about:
     reads        four sessions that read, to one session with all their statements (processor time, 1.3)
     commits      four sessions of commits, to one session with all of them (wall time, 1.1)
     moving       the same with two workers that move the rows of a migration beside them (wall time, 2)
-    workers      two workers that move every granule, to one SELECT of everything that does (wall time, 1.3)
-    waiting      a session that waits for a lock while another works, to the other alone (processor time)
+    finish       `--finish` that moves every granule, to one SELECT of everything that does (wall time)
+    workers      how many granules two workers have moved when a session of INSERTs has ended
 """
 
 import os
@@ -117,7 +117,6 @@ def main():
 
         whole = "PHASE; SESSION; SELECT COUNT(*) FROM priv;"
         select = bench.least(both, whole, "--workers", "0")
-        # The statement of this session needs nothing: it lasts while workers move, since `--finish` ends the run.
         finish = bench.least(both, "PHASE; SESSION;", "--workers", "0", "--finish")
         tell("finish", select, finish, 0)
         busy = "PHASE; SESSION;\n" + "\n".join(
