@@ -33,12 +33,12 @@ pub enum Busy {
     ThirdsElsewhere,
     /// Each, as often as its position tells.
     ByPosition,
-    /// All, until so many waits.
+    /// All, until so many waits and rests.
     UntilWaits(u64),
 }
 
 /// A bench. Its session begins, is served one statement after the other, waits once and has ended;
-/// its worker waits once where nothing is left, and is told then that the phase has ended.
+/// its worker rests once where nothing is left, and is told then that the phase has ended.
 #[derive(Drop)]
 pub struct Hall {
     pub alloc: Global,
@@ -54,6 +54,8 @@ pub struct Hall {
     pub refuses_at: u32,
     waits: AtomicU64,
     waited: AtomicU64,
+    rests: AtomicU64,
+    rested: AtomicU64,
 }
 
 /// The seats of an actor.
@@ -103,14 +105,24 @@ impl Hall {
             refuses_at: NEVER,
             waits: AtomicU64::new(0),
             waited: AtomicU64::new(0),
+            rests: AtomicU64::new(0),
+            rested: AtomicU64::new(0),
         }
     }
 
-    /// How often it was waited, and the sum of what was waited for.
+    /// How often a session waited, and the sum of what it waited for.
     pub fn waited(&self) -> (u64, u64) {
         (
             self.waits.load(Ordering::SeqCst),
             self.waited.load(Ordering::SeqCst),
+        )
+    }
+
+    /// How often a worker rested, and the sum of what it rested for.
+    pub fn rested(&self) -> (u64, u64) {
+        (
+            self.rests.load(Ordering::SeqCst),
+            self.rested.load(Ordering::SeqCst),
         )
     }
 
@@ -145,7 +157,9 @@ impl Hall {
             Busy::ThirdsElsewhere => is_third && before == 0,
             Busy::ByPosition => (before as usize) < position,
             Busy::UntilWaits(waits) => {
-                before < MOST_ASKED && self.waits.load(Ordering::SeqCst) < waits
+                let (waited, _) = self.waited();
+                let (rested, _) = self.rested();
+                before < MOST_ASKED && waited.saturating_add(rested) < waits
             }
         }
     }
@@ -392,5 +406,10 @@ impl Bench for Hall {
     fn wait(&self, seen_before: u64) {
         self.waits.fetch_add(1, Ordering::SeqCst);
         self.waited.fetch_add(seen_before, Ordering::SeqCst);
+    }
+
+    fn rest(&self, seen_before: u64) {
+        self.rests.fetch_add(1, Ordering::SeqCst);
+        self.rested.fetch_add(seen_before, Ordering::SeqCst);
     }
 }

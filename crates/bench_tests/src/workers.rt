@@ -41,7 +41,7 @@ fn everything_that_is_left_moves(rt: HostRuntime) -> Result<(), Fail> {
     assert_eq!(rt; seats.rows.counts, counts);
     assert_eq!(rt; seats.rows.done_rows(), 140);
     assert_eq!(rt; gate.told(), (8, 140, 0, 0));
-    assert_eq!(rt; hall.waited(), (1, 3));
+    assert_eq!(rt; hall.rested(), (1, 3));
     Ok(())
 }
 
@@ -64,7 +64,7 @@ fn a_gate_turns_back_always(rt: HostRuntime) -> Result<(), Fail> {
     assert_eq!(rt; seats.rows.counts, counts);
     assert_eq!(rt; seats.rows.done_rows(), 10);
     assert_eq!(rt; gate.told(), (8, 40, 0, 0));
-    assert_eq!(rt; hall.waited(), (1, 3));
+    assert_eq!(rt; hall.rested(), (1, 3));
     Ok(())
 }
 
@@ -110,7 +110,7 @@ fn what_stays_busy_is_waited_for(rt: HostRuntime) -> Result<(), Fail> {
     assert_eq!(rt; seats.rows.counts, counts);
     assert_eq!(rt; seats.rows.done_rows(), 3);
     assert_eq!(rt; gate.told(), (1, 3, 0, 0));
-    assert_eq!(rt; hall.waited(), (3, 101 + 102 + 3));
+    assert_eq!(rt; hall.rested(), (3, 101 + 102 + 3));
     Ok(())
 }
 
@@ -133,7 +133,7 @@ fn who_holds_some_goes_on_at_once(rt: HostRuntime) -> Result<(), Fail> {
     };
     assert_eq!(rt; seats.rows.counts, counts);
     assert_eq!(rt; seats.rows.done_rows(), 3);
-    assert_eq!(rt; hall.waited(), (2, 102 + 3));
+    assert_eq!(rt; hall.rested(), (2, 102 + 3));
     Ok(())
 }
 

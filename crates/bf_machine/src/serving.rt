@@ -152,7 +152,7 @@ pub fn prepare_next<N: Opened>(
 
 /// How many of some granules, which stand in the order of unit and place, one record may move: the first
 /// of one unit, 64 at most. It looks at as many.
-pub fn record_len(granules: &[Granule]) -> usize
+fn record_len(granules: &[Granule]) -> usize
     ensures within { result ≤ length granules.now }
     ensures some { 0 < length granules.now → 0 < result }
     ensures few { result ≤ most_moved }
@@ -193,7 +193,7 @@ fn move_record<N: Opened, J: Journal>(
     ensures keeps { KeepsOrIsRefused J.Answers J.ends N.opening machine.old journal.old
         machine.new journal.new result }
 {
-    match machine.moved(registry, journal, pass, indexes, granules) {
+    match machine.moved(registry, journal, pass, indexes, granules, None) {
         Ok(_) => Ok(()),
         Err(MoveError::Ended(cause)) => Err(KeepError::Ended(cause)),
         Err(MoveError::Memory) => Err(KeepError::Memory),
@@ -202,11 +202,12 @@ fn move_record<N: Opened, J: Journal>(
 }
 
 /// Moves granules of the last migration, in the order of unit and place, by records of at most 64 granules
-/// of one unit.
+/// of one unit. It costs what [`Machine::moved`] does for each record.
 ///
 /// # Errors
-/// Where [`move_record`] has one. The records before have moved then.
-fn move_records<N: Opened, J: Journal>(
+/// `Ended` where the journal does not keep a move, with the cause that it tells; and where memory runs out, or
+/// 2 ^ 32 granules or 2 ^ 64 changes were made. The records before have moved then.
+pub fn move_records<N: Opened, J: Journal>(
     registry: &Registry,
     journal: &mut J,
     machine: &mut Machine<N>,

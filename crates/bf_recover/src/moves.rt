@@ -79,6 +79,6 @@ pub(crate) fn move_places(
     if left < all {
         return Ok(false);
     }
-    store.move_granules(registry, found, &granules)?;
+    store.move_granules(registry, found, &granules, None)?;
     Ok(true)
 }

@@ -53,7 +53,7 @@ fn settle(alloc: Global, registry: &Registry, store: &mut Store) -> Result<(), M
     let last = registry.migration(&pass);
     let indexes = ValueIndexes::of(alloc, last)?;
     let all = all_granules(alloc, last, &indexes)?;
-    store.move_granules(registry, &indexes, all.as_slice())?;
+    store.move_granules(registry, &indexes, all.as_slice(), None)?;
     Ok(())
 }
 

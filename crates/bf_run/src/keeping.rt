@@ -23,19 +23,21 @@ ghost use Rattle.bf_words.specs.Words.{running};
 
 use crate::auditing::report_of;
 use crate::death_laws::sessions_that_have_ended_ran_with_deaths;
+use crate::host::Host;
 use crate::journal_laws::{
     a_size_that_is_told_is_that_of_a_record, every_crash_leaves_a_prefix, what_ends_groups_is_told,
 };
 use crate::log_journal::LogJournal;
 use crate::status::{Status, disk_fault, not_a_log_line};
 use bf_base::Memory;
+use bf_bench::Gate;
 use bf_disk::{Disk, DiskError, Shelf};
 use bf_image::Registry;
 use bf_log::{Log, OpenError};
 use bf_machine::Parts;
 use bf_machine::interleaving_laws::events_keep_all;
 use bf_recover::reopen;
-use bf_serve::{Crew, OpenGate, serve_script};
+use bf_serve::{Crew, serve_script};
 use bf_store::Store;
 use bf_tree::Script;
 use std::alloc::Global;
@@ -59,9 +61,8 @@ pub(crate) struct RunOptions {
 
 /// The status of a run of a script over a store, whose changes a journal keeps, and its whole report. The journal comes
 /// back, whatever came of it.
-fn tell_run<D: Disk + Send, R: Threads + Wait + Sync>(
-    alloc: Global,
-    rt: &R,
+fn tell_run<D: Disk + Send, R: Threads + Wait + Sync, G: Gate + Sync>(
+    host: Host<'_, R, G>,
     registry: &Registry,
     store: Store,
     journal: LogJournal<D>,
@@ -91,10 +92,11 @@ fn tell_run<D: Disk + Send, R: Threads + Wait + Sync>(
     every_crash_leaves_a_prefix(PhantomData::<D>);
     what_ends_groups_is_told(PhantomData::<D>);
     a_size_that_is_told_is_that_of_a_record(PhantomData::<D>);
+    let alloc = host.alloc;
     let crew = Crew {
         alloc,
-        rt,
-        gate: &OpenGate,
+        rt: host.rt,
+        gate: host.gate,
         workers: options.workers,
         retries: options.retries,
         finish: options.finish,
@@ -143,9 +145,8 @@ fn tell_parts<D: Disk>(
 }
 
 /// Serves a script over a store that was reopened, and gives back the disk of its log, whatever came of it.
-fn serve_over<D: Disk + Send, R: Threads + Wait + Sync>(
-    alloc: Global,
-    rt: &R,
+fn serve_over<D: Disk + Send, R: Threads + Wait + Sync, G: Gate + Sync>(
+    host: Host<'_, R, G>,
     registry: &Registry,
     store: Store,
     log: Log<D>,
@@ -164,8 +165,8 @@ fn serve_over<D: Disk + Send, R: Threads + Wait + Sync>(
     ensures broken_off { OnErr result.1
         (IsBrokenOffOn (view_of store.lazy) log result.0 script) }
 {
-    let journal = LogJournal::of(alloc, log);
-    let (journal, told) = tell_run(alloc, rt, registry, store, journal, script, options);
+    let journal = LogJournal::of(host.alloc, log);
+    let (journal, told) = tell_run(host, registry, store, journal, script, options);
     (journal.into_disk(), told)
 }
 
@@ -181,9 +182,8 @@ fn tell_open_error(alloc: Global, error: OpenError) -> Result<(Status, Vec<u8>),
 }
 
 /// Reopens the log of a disk with a registry for its migrations, and runs a script over the database that it keeps.
-fn run_with<D: Disk + Send, R: Threads + Wait + Sync>(
-    alloc: Global,
-    rt: &R,
+fn run_with<D: Disk + Send, R: Threads + Wait + Sync, G: Gate + Sync>(
+    host: Host<'_, R, G>,
     registry: &Registry,
     disk: D,
     script: Script,
@@ -196,16 +196,16 @@ fn run_with<D: Disk + Send, R: Threads + Wait + Sync>(
     ensures untold { OnErr result.1
         (IsUntold D.seen D.may_leave D.moment D.left_since script disk result.0) }
 {
-    match reopen(alloc, rt, registry, disk) {
-        Ok((store, log)) => serve_over(alloc, rt, registry, store, log, script, options),
+    let alloc = host.alloc;
+    match reopen(alloc, host.rt, registry, disk) {
+        Ok((store, log)) => serve_over(host, registry, store, log, script, options),
         Err((disk, error)) => (disk, tell_open_error(alloc, error)),
     }
 }
 
 /// Runs a script over the database that the log of a disk keeps.
-fn run_over<D: Disk + Send, R: Threads + Wait + Sync>(
-    alloc: Global,
-    rt: &R,
+fn run_over<D: Disk + Send, R: Threads + Wait + Sync, G: Gate + Sync>(
+    host: Host<'_, R, G>,
     disk: D,
     script: Script,
     options: RunOptions,
@@ -217,19 +217,18 @@ fn run_over<D: Disk + Send, R: Threads + Wait + Sync>(
     ensures untold { OnErr result.1
         (IsUntold D.seen D.may_leave D.moment D.left_since script disk result.0) }
 {
-    let Ok((registry, _empty)) = Registry::new(alloc, rt) else {
+    let Ok((registry, _empty)) = Registry::new(host.alloc, host.rt) else {
         return (disk, Err(Memory));
     };
-    let ran = run_with(alloc, rt, &registry, disk, script, options);
+    let ran = run_with(host, &registry, disk, script, options);
     // What a migration set aside goes with the program too.
     forget(registry);
     ran
 }
 
 /// The status of a script that is asked to be run over the log under a path, and its whole text. The file is put back whatever came of it.
-pub(crate) fn run<S: Shelf, R: Threads + Wait + Sync>(
-    alloc: Global,
-    rt: &R,
+pub(crate) fn run<S: Shelf, R: Threads + Wait + Sync, G: Gate + Sync>(
+    host: Host<'_, R, G>,
     path: &str,
     shelf: &mut S,
     script: Script,
@@ -259,10 +258,10 @@ where
 {
     let disk = match shelf.take(path) {
         Ok(disk) => disk,
-        Err(DiskError::Fault) => return disk_fault(alloc),
+        Err(DiskError::Fault) => return disk_fault(host.alloc),
         Err(DiskError::Memory) => return Err(Memory),
     };
-    let (disk, told) = run_over(alloc, rt, disk, script, options);
+    let (disk, told) = run_over(host, disk, script, options);
     shelf.put_back(path, disk);
     told
 }

@@ -6,6 +6,7 @@ mod auditing;
 mod changes;
 mod creating;
 pub mod death_laws;
+mod host;
 pub mod journal_laws;
 mod keeping;
 pub mod laws;
@@ -13,6 +14,7 @@ pub mod log_journal;
 pub mod status;
 pub mod top;
 
+pub use bf_bench::{Choice, Gate, OpenGate, Point};
 pub use log_journal::LogJournal;
 pub use status::Status;
 pub use top::bullfrog;

@@ -15,9 +15,11 @@ ghost use Rattle.bf_run.specs.Words.{IfCreating, IfNoPath, IfRunning, asked_opti
 ghost use Rattle.bf_words.specs.Words.{asked, running};
 
 use crate::creating::create;
+use crate::host::Host;
 use crate::keeping::{RunOptions, run};
 use crate::status::{Status, fault_line};
 use bf_base::{LONGEST_SCRIPT, Memory};
+use bf_bench::Gate;
 use bf_disk::Shelf;
 use bf_image::Registry;
 use bf_io::{ReadError, Sink, Source, read_all, write_whole};
@@ -141,9 +143,8 @@ fn read_script<I: Source>(alloc: Global, input: &mut I) -> Result<ScriptRead, Me
 }
 
 /// The status of an input that is asked to be run, and its whole text.
-fn try_input<I: Source, R: Wait>(
-    alloc: Global,
-    rt: &R,
+fn try_input<I: Source, R: Wait, G: Gate>(
+    host: Host<'_, R, G>,
     input: &mut I,
 ) -> Result<(Status, Vec<u8>), Memory>
     ensures { IfOk result (λ a. IsInputAnswer
@@ -154,16 +155,15 @@ fn try_input<I: Source, R: Wait>(
           faults_after = I.faults input.new;
         }) a.0 a.1.items) }
 {
-    match read_script(alloc, input)? {
-        Ok(script) => Ok((Status::Done, run_report(alloc, rt, script)?)),
+    match read_script(host.alloc, input)? {
+        Ok(script) => Ok((Status::Done, run_report(host.alloc, host.rt, script)?)),
         Err(told) => Ok(told),
     }
 }
 
 /// The status of an input that is asked to be run over a log, and its whole text.
-fn run_input<I: Source, S: Shelf, R: Threads + Wait + Sync>(
-    alloc: Global,
-    rt: &R,
+fn run_input<I: Source, S: Shelf, R: Threads + Wait + Sync, G: Gate + Sync>(
+    host: Host<'_, R, G>,
     path: &str,
     options: RunOptions,
     input: &mut I,
@@ -189,16 +189,15 @@ where
         shelf.old shelf.new) path.now }
     ensures none_taken { (path : List ℕ) → S.taken shelf.new path ≡ None }
 {
-    match read_script(alloc, input)? {
-        Ok(script) => run(alloc, rt, path, shelf, script, options),
+    match read_script(host.alloc, input)? {
+        Ok(script) => run(host, path, shelf, script, options),
         Err(told) => Ok(told),
     }
 }
 
 /// The status and its whole text, before a byte is written.
-fn answer<I: Source, S: Shelf, R: Threads + Wait + Sync>(
-    alloc: Global,
-    rt: &R,
+fn answer<I: Source, S: Shelf, R: Threads + Wait + Sync, G: Gate + Sync>(
+    host: Host<'_, R, G>,
     words: &[&str],
     input: &mut I,
     shelf: &mut S,
@@ -230,7 +229,7 @@ where
     ensures none_taken { (path : List ℕ) → S.taken shelf.new path ≡ None }
 {
     match read_words(words) {
-        Ok(Words::Try) => try_input(alloc, rt, input),
+        Ok(Words::Try) => try_input(host, input),
         Ok(
             Words::Run {
                 path,
@@ -246,17 +245,18 @@ where
                 finish,
                 audit,
             };
-            run_input(alloc, rt, path, options, input, shelf)
+            run_input(host, path, options, input, shelf)
         }
-        Ok(Words::Create(path)) => create(alloc, path, shelf),
-        Err(WordsError::Usage) => usage(alloc),
+        Ok(Words::Create(path)) => create(host.alloc, path, shelf),
+        Err(WordsError::Usage) => usage(host.alloc),
     }
 }
 
 /// Serves the words behind the program's name: `try` runs the script that the input is over a database that is
 /// empty and is not kept, and writes its report; `create` makes an empty log in the file under a path of the shelf,
 /// if it is new or empty, and reads nothing of the input; `run` runs the script over the database that the log under
-/// a path keeps, which it reads first, and adds to the log what the script changes.
+/// a path keeps, which it reads first, and adds to the log what the script changes. Each session and worker of `run` asks
+/// the gate before it moves rows, and tells it of each reply.
 ///
 /// The whole text is made before its first byte is written, so want of memory is answered with
 /// nothing written. The time of a run is linear in the input and in the report; beside that each statement
@@ -264,13 +264,14 @@ where
 /// what it costs to find and move the rows that it needs. `run` reads the log once before that, and adds a record for
 /// each change, which is synced twice before its reply. Script and tables are not freed:
 /// the call is a program's last, and their memory goes with the program.
-pub fn bullfrog<I: Source, O: Sink, S: Shelf, R: Threads + Wait + Sync>(
+pub fn bullfrog<I: Source, O: Sink, S: Shelf, R: Threads + Wait + Sync, G: Gate + Sync>(
     rt: &R,
     alloc: Global,
     words: &[&str],
     input: &mut I,
     output: &mut O,
     shelf: &mut S,
+    gate: &G,
 ) -> Status
 where
     S::Disk: Send,
@@ -294,7 +295,8 @@ where
         (shelf.new ≡ shelf.old) }
     ensures none_taken { (path : List ℕ) → S.taken shelf.new path ≡ None }
 {
-    let Ok((status, text)) = answer(alloc, rt, words, input, shelf) else {
+    let host = Host { alloc, rt, gate };
+    let Ok((status, text)) = answer(host, words, input, shelf) else {
         return Status::Memory;
     };
     match write_whole(output, text.as_slice()) {

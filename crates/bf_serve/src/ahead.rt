@@ -20,7 +20,7 @@ pub(crate) struct Anchors {
     pub(crate) unit: u8,
     pub(crate) from: u32,
     pub(crate) to: u32,
-    /// How much had happened when they were told.
+    /// How much had happened that workers rest for when they were told.
     pub(crate) seen: u64,
 }
 
@@ -29,7 +29,7 @@ pub(crate) struct Anchors {
 pub(crate) enum Ahead {
     /// To move the granules at these anchors.
     Anchors(Anchors),
-    /// To wait until more has happened than this count tells.
+    /// To rest until more has happened that workers rest for than this count tells.
     Wait(u64),
     /// The sessions of the phase have ended.
     Ended,

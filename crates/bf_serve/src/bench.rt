@@ -7,7 +7,7 @@ ghost use Rattle.bf_machine.specs.interleaving.Calls.{IsPlace};
 ghost use Rattle.bf_serve.specs.Seats.{Hold, IsSeatOf};
 
 use crate::ahead::{Ahead, granules_between};
-use crate::engine::Beginning;
+use crate::engine::{Beginning, MovedWork};
 use crate::seats::Seats;
 use crate::shared::{Shared, Step};
 use bf_base::{Granule, Memory};
@@ -15,6 +15,7 @@ use bf_bench::{Bench, Carried, Gate, Left, Taken, Turn};
 use bf_drive::Wip;
 use bf_image::MigrationPass;
 use bf_machine::Journal;
+use bf_store::Images;
 use bf_trackers::Work;
 use std::sync::Wait;
 
@@ -44,23 +45,27 @@ impl<'r, 'g, N: Beginning<J>, J: Journal, R: Wait, G: Gate> Shared<'r, 'g, N, J,
         }
     }
 
-    /// Moves granules that are claimed, and tells whether they have moved.
+    /// Does work: makes the images of its granules, and then moves them in one section. `None` where they have not moved.
     ///
     /// # Errors
     /// Where memory runs out.
-    fn move_work(&self, session: Option<u32>, work: &Work) -> Result<bool, Memory>
+    fn move_work(&self, session: Option<u32>, work: &Work) -> Result<Option<MovedWork<N, J>>, Memory>
         requires session { IfSome session (IsPlace N.script) }
         requires pass { Shows N.registry.migrations work.now.pass }
+        ensures { IfOk result (λ moved. IfSome moved (λ moved. moved.work.value ≡ work.now)) }
     {
         let lookups = self.lookups(work.pass())?;
+        let indexes = lookups.indexes();
+        let migration = self.registry.migration(work.pass());
+        let images = Images::of(self.alloc, migration, indexes, work.granules())?;
         let moved = self.engine.lock(self.rt).move_granules(
             self.registry,
             session,
-            work.pass(),
-            lookups.indexes(),
-            work.granules(),
+            work,
+            indexes,
+            images,
         );
-        self.wake();
+        self.wake_all();
         moved
     }
 
@@ -173,11 +178,11 @@ impl<'r, 'g, N: Beginning<J>, J: Journal, R: Wait, G: Gate> Bench for Shared<'r,
         let moved = self.move_work(seats.session(), &work);
         let wip = work.into_wip();
         match moved {
-            Ok(true) => {
-                seats.finish(self.rt, wip);
+            Ok(Some(moved)) => {
+                seats.finish(self.rt, wip, moved);
                 Ok(Carried::Moved)
             }
-            Ok(false) => {
+            Ok(None) => {
                 seats.free(self.rt, wip);
                 self.note_refused();
                 seats.note_refused();
@@ -197,5 +202,9 @@ impl<'r, 'g, N: Beginning<J>, J: Journal, R: Wait, G: Gate> Bench for Shared<'r,
 
     fn wait(&self, seen_before: u64) {
         self.wait_for(seen_before);
+    }
+
+    fn rest(&self, seen_before: u64) {
+        self.rest_for(seen_before);
     }
 }

@@ -4,10 +4,11 @@ ghost use Rattle.std.specs.Prelude.{◌≡◌, ◌<◌, [], IfOk, IfSome, IsTrue
 ghost use Rattle.std.specs.Option.{option_map};
 ghost use Rattle.boxcar.specs.Table.{Shows};
 ghost use Rattle.bf_image.specs.Migrations.{value_indexes};
-ghost use Rattle.bf_store.specs.Stores.{IsOf, migration_of};
+ghost use Rattle.bf_store.specs.Puts.{AreImages};
+ghost use Rattle.bf_store.specs.Stores.{IsOf};
 ghost use Rattle.bf_machine.specs.interleaving.Calls.{IsPlace};
-ghost use Rattle.bf_machine.specs.interleaving.Journals.{AreSaid, IsOneRecord};
-ghost use Rattle.bf_serve.specs.Come.{HasCome};
+ghost use Rattle.bf_machine.specs.interleaving.Journals.{AreSaid};
+ghost use Rattle.bf_serve.specs.Come.{HasCome, HasMoved};
 ghost use Rattle.bf_serve.specs.Seats.{IsFreshSeatOf};
 ghost use Rattle.bf_serve.specs.Steps.{IsAhead};
 ghost use Rattle.bf_serve.specs.Sections.{AreNeededIfAny};
@@ -16,12 +17,15 @@ use crate::ahead::{Ahead, Anchors, Cursor};
 use crate::requests::{Position, Request};
 use crate::seats::Seat;
 use crate::sections::{Asked, Ran, ask_for, commit, move_for, present_catalog, run_statement};
-use bf_base::{Granule, Memory};
+use bf_base::Memory;
 use bf_image::{CatalogPass, MigrationPass, Registry, ValueIndexes};
 use bf_machine::{Journal, Lookups, Machine, Opened, Stand};
+use bf_store::Images;
+use bf_trackers::Work;
 use bf_tree::Sweep;
 use std::alloc::Global;
 use std::marker::{Brand, Model, PhantomData};
+use std::snapshot::Snapshot;
 use std::sync::{Arc, Wait};
 
 /// How a machine stood beside its journal when a run began. It has no functions; contracts alone read it.
@@ -68,6 +72,8 @@ pub struct Engine<N: Beginning<J>, J: Journal> {
     catalog: Option<CatalogPass>,
     /// Commits, ended attempts, moves and ended sessions so far.
     count: u64,
+    /// Of these, those that can give workers something to move, or end them.
+    calls: u64,
     phase: Phase,
     /// How many sessions of the phase have not ended.
     sessions: usize,
@@ -79,14 +85,14 @@ pub struct Engine<N: Beginning<J>, J: Journal> {
     seat: Option<Seat<N>>,
     /// Where workers look next.
     cursor: Cursor,
-    /// How much had happened when the journal last refused a move.
+    /// How much had happened for workers when the journal last refused a move.
     refused: Option<u64>,
 }
 
 impl<N: Beginning<J>, J: Journal> Model for Engine<N, J> {
     ghost use Rattle.std.specs.Prelude.{ℕ, ◌≡◌};
     ghost use Rattle.bf_machine.specs.interleaving.Journals.{AreSaid};
-    ghost use Rattle.bf_serve.specs.Come.{HasCome};
+    ghost use Rattle.bf_serve.specs.Come.{HasCome, HasMoved};
     ghost use Rattle.bf_serve.specs.Requests.{IsPresentCatalog};
 
     ghost Value = { ℕ };
@@ -98,12 +104,23 @@ impl<N: Beginning<J>, J: Journal> Model for Engine<N, J> {
         × IsPresentCatalog N.registry e.machine e.catalog };
 }
 
+/// That the granules of some work have moved in this run. Only [`Engine::move_granules`] makes one, and only with one do claims end
+/// as moved.
+pub(crate) struct MovedWork<N: Beginning<J>, J: Journal> {
+    work: Snapshot<Work>,
+    opened: PhantomData<N>,
+    journal: PhantomData<J>,
+    ghost moved: { HasMoved J.Answers N.opening N.begins work.value.pass work.value.granules },
+}
+
 /// What a session is to do next.
 pub(crate) enum Due<N: Opened> {
     /// Its next group has begun: its next turn.
     Again,
     /// Its group has ended.
     Ending,
+    /// Its group has ended, and changed the catalog: workers may have something to move.
+    EndingSchema,
     /// It waits until more has happened than this count tells.
     Wait(u64),
     /// Each of its statements has its reply.
@@ -133,6 +150,7 @@ impl<N: Beginning<J>, J: Journal> Engine<N, J> {
             journal,
             catalog,
             count: 0,
+            calls: 0,
             phase: Phase::none(),
             sessions: 0,
             out_of_memory: false,
@@ -161,6 +179,11 @@ impl<N: Beginning<J>, J: Journal> Engine<N, J> {
         self.count
     }
 
+    /// How much has happened that workers rest for.
+    pub(crate) fn calls(&self) -> u64 {
+        self.calls
+    }
+
     /// Whether memory ran out for an actor.
     pub fn is_out_of_memory(&self) -> bool {
         self.out_of_memory
@@ -187,20 +210,26 @@ impl<N: Beginning<J>, J: Journal> Engine<N, J> {
         self.lookups = Some(lookups);
     }
 
-    /// Notes that something has happened that others may wait for.
+    /// Notes that something has happened that sessions may wait for.
     fn happened(&mut self) {
         self.count = self.count.saturating_add(1);
     }
 
+    /// Notes that something has happened that sessions may wait for and workers may rest for.
+    fn happened_to_all(&mut self) {
+        self.happened();
+        self.calls = self.calls.saturating_add(1);
+    }
+
     /// Notes that granules are free again.
     pub(crate) fn note_given_back(&mut self) {
-        self.happened();
+        self.happened_to_all();
     }
 
     /// Notes that granules are free again whose move was refused: workers look no further until more has happened.
     pub(crate) fn note_refused(&mut self) {
-        self.happened();
-        self.refused = Some(self.count);
+        self.happened_to_all();
+        self.refused = Some(self.calls);
     }
 
     /// A seat at the trackers of a migration, which are made where it has none yet, by what of it has moved. `None` where it is not
@@ -247,14 +276,14 @@ impl<N: Beginning<J>, J: Journal> Engine<N, J> {
         if self.sessions == 0 {
             return Ok(Ahead::Ended);
         }
-        if self.refused == Some(self.count) {
-            return Ok(Ahead::Wait(self.count));
+        if self.refused == Some(self.calls) {
+            return Ok(Ahead::Wait(self.calls));
         }
         let (Some(pass), Sweep::Running { unit, position, .. }) = (
             self.machine.migration(),
             self.machine.sweep(),
         ) else {
-            return Ok(Ahead::Wait(self.count));
+            return Ok(Ahead::Wait(self.calls));
         };
         let last = registry.migration(&pass);
         let (unit, from, to) = self.cursor.take(last, (unit, position), most);
@@ -263,7 +292,7 @@ impl<N: Beginning<J>, J: Journal> Engine<N, J> {
             unit,
             from,
             to,
-            seen: self.count,
+            seen: self.calls,
         }))
     }
 
@@ -295,11 +324,11 @@ impl<N: Beginning<J>, J: Journal> Engine<N, J> {
         machine.abort(session);
     }
 
-    /// Commits a session's group.
+    /// Commits a session's group, and tells whether the catalog has changed by it.
     ///
     /// # Errors
     /// Where memory runs out, or too much has changed.
-    fn commit<R: Wait>(&mut self, rt: &R, registry: &Registry, session: u32) -> Result<(), Memory>
+    fn commit<R: Wait>(&mut self, rt: &R, registry: &Registry, session: u32) -> Result<bool, Memory>
         requires registry { registry.now ≡ N.registry }
         requires place { IsPlace N.script session }
     {
@@ -312,7 +341,7 @@ impl<N: Beginning<J>, J: Journal> Engine<N, J> {
         } = self;
         let _ = machine.script();
         if machine.stand(session) != Stand::Commit {
-            return Ok(());
+            return Ok(false);
         }
         commit(*alloc, rt, registry, machine, journal, catalog, session)
     }
@@ -367,7 +396,10 @@ impl<N: Beginning<J>, J: Journal> Engine<N, J> {
                 Ok(Due::Again)
             }
             Stand::Commit => {
-                self.commit(rt, registry, session)?;
+                if self.commit(rt, registry, session)? {
+                    self.happened_to_all();
+                    return Ok(Due::EndingSchema);
+                }
                 self.happened();
                 Ok(Due::Ending)
             }
@@ -383,7 +415,7 @@ impl<N: Beginning<J>, J: Journal> Engine<N, J> {
             Stand::Named(_) | Stand::Later => Ok(Due::Wait(self.count)),
             Stand::Ended => {
                 self.sessions = self.sessions.saturating_sub(1);
-                self.happened();
+                self.happened_to_all();
                 Ok(Due::Ended)
             }
         }
@@ -443,7 +475,8 @@ impl<N: Beginning<J>, J: Journal> Engine<N, J> {
         Ok((ran, *count))
     }
 
-    /// Moves granules of a migration, for a session that needs them or for none, and tells whether they have moved.
+    /// Does the work that a session needs, or a worker found, as one record of moves, by the images of its granules. `None`
+    /// where the migration is not the last one any more, and where the journal does not keep the move.
     ///
     /// # Errors
     /// Where memory runs out, or 2 ^ 32 granules or 2 ^ 64 changes were made.
@@ -451,28 +484,31 @@ impl<N: Beginning<J>, J: Journal> Engine<N, J> {
         &mut self,
         registry: &Registry,
         session: Option<u32>,
-        migration: &MigrationPass,
+        work: &Work,
         indexes: &ValueIndexes,
-        granules: &[Granule],
-    ) -> Result<bool, Memory>
+        images: Images,
+    ) -> Result<Option<MovedWork<N, J>>, Memory>
         requires registry { registry.now ≡ N.registry }
         requires place { IfSome session (IsPlace N.script) }
-        requires pass { Shows N.registry.migrations migration.now }
-        requires indexed { indexes.now ≡ value_indexes migration.now.value }
-        requires granules { IsOneRecord (Some (migration_of migration.now.value [])) granules.now }
+        requires pass { Shows N.registry.migrations work.now.pass }
+        requires indexed { indexes.now ≡ value_indexes work.now.pass.value }
+        requires images { AreImages work.now.pass.value work.now.granules images }
+        ensures { IfOk result (λ moved. IfSome moved (λ moved. moved.work.value ≡ work.now)) }
     {
         let Engine {
-            machine,
-            journal,
-            count,
-            ..
+            machine, journal, ..
         } = self;
         let _ = machine.script();
-        let moved = move_for(
-            registry, machine, journal, session, migration, indexes, granules,
-        );
-        *count = count.saturating_add(1);
-        moved
+        let has_moved = move_for(registry, machine, journal, session, work, indexes, images);
+        self.happened_to_all();
+        if !has_moved? {
+            return Ok(None);
+        }
+        Ok(Some(MovedWork {
+            work: Snapshot::of(work),
+            opened: PhantomData,
+            journal: PhantomData,
+        }))
     }
 
     /// The machine and its journal, as they have come.

@@ -16,7 +16,7 @@ ghost use Rattle.bf_serve.specs.Finishing.{HasFinished, HasMovedOrStopped};
 
 use bf_base::{Granule, Memory};
 use bf_image::{Migration, MigrationPass, Registry, ValueIndexes};
-use bf_machine::{Journal, Machine, MoveError, Opened, record_len};
+use bf_machine::{Journal, KeepError, Machine, Opened, move_records};
 use bf_transpose::cover_of;
 use bf_tree::{Action, Bound};
 use std::alloc::Global;
@@ -103,17 +103,11 @@ fn move_in_records<N: Opened, J: Journal>(
     ensures ended { (s : ℕ) → IsPlace machine.old.script s → HasSessionEnded machine.old s
         → HasSessionEnded machine.new s }
 {
-    let mut left = granules;
-    while !left.is_empty() {
-        let (record, later) = left.split_at(record_len(left));
-        match machine.moved(registry, journal, pass, indexes, record) {
-            Ok(_) => left = later,
-            Err(MoveError::Ended(_)) => return Ok(()),
-            Err(MoveError::Old(_)) => return Err(Memory),
-            Err(MoveError::Memory) => return Err(Memory),
-        }
+    match move_records(registry, journal, machine, pass, indexes, granules) {
+        Ok(()) => Ok(()),
+        Err(KeepError::Ended(_)) => Ok(()),
+        Err(KeepError::Memory) => Err(Memory),
     }
-    Ok(())
 }
 
 /// Moves all that is left of the last migration of a machine, by records of at most 64 granules of

@@ -7,7 +7,6 @@ pub mod bench;
 mod catalogs;
 pub mod engine;
 pub mod finishing;
-pub mod gate;
 pub mod phases;
 pub mod requests;
 pub mod seats;
@@ -15,5 +14,4 @@ mod sections;
 pub mod shared;
 
 pub use finishing::{all_granules, finish_migration};
-pub use gate::OpenGate;
 pub use phases::{Crew, serve_script};

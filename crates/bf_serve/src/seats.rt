@@ -10,11 +10,12 @@ ghost use Rattle.bf_store.specs.Stores.{migration_of};
 ghost use Rattle.bf_trackers.specs.Migrations.{IsGranuleOf};
 ghost use Rattle.bf_serve.specs.Seats.{AreOfSeat, Hold, HoldAtSeat, IsSeat, IsSeatOf};
 
+use crate::engine::{Beginning, MovedWork};
 use bf_base::{Granule, Memory};
 use bf_bench::Taken;
 use bf_drive::Wip;
 use bf_image::{MigrationPass, Registry};
-use bf_machine::Opened;
+use bf_machine::{Journal, Opened};
 use bf_trackers::{TrackerSeats, Trackers};
 use std::alloc::Global;
 use std::marker::{Model, PhantomData};
@@ -351,13 +352,17 @@ impl<N: Opened> Seats<N> {
         seat.claim(rt, granule)
     }
 
-    /// Ends all claims, which have moved.
-    pub(crate) fn finish<R: Wait>(&mut self, rt: &R, wip: Wip)
+    /// Ends all claims, whose granules have moved.
+    pub(crate) fn finish<R: Wait, J: Journal>(&mut self, rt: &R, wip: Wip, moved: MovedWork<N, J>)
+    where
+        N: Beginning<J>,
         requires holds { Hold self.old wip }
         requires some { 1 ≤ length wip }
+        requires moved { moved.work.value.wip ≡ wip }
         ensures noted { self.new.notes ≡ self.old.notes }
         ensures spent { Hold self.new [] }
     {
+        let _ = moved;
         let Some(seat) = &mut self.seat else {
             unreachable!();
         };

@@ -1,16 +1,18 @@
 //! What a thread does to the machine and its journal in one section under their lock: a lock that it asks for, a statement that has its
 //! reply, a group that ends, granules that move. Each is one event beside the journal, or none.
 
-ghost use Rattle.std.specs.Prelude.{◌≡◌, ◌⊎◌, ◌<◌, ℕ, [], All, IfOk, IfSome, IsSomeAnd, IsTrue, None, Some, length, true};
+ghost use Rattle.std.specs.Prelude.{◌≡◌, ◌≢◌, ◌⊎◌, ◌<◌, ℕ, All, IfOk, IfSome, IsSomeAnd, IsTrue, None, Ok, Some, false, length, true};
 ghost use Rattle.std.specs.Option.{option_map};
 ghost use Rattle.boxcar.specs.Table.{Shows};
 ghost use Rattle.bf_image.specs.Migrations.{value_indexes};
-ghost use Rattle.bf_store.specs.Stores.{IsOf, migration_of};
+ghost use Rattle.bf_store.specs.Puts.{AreImages};
+ghost use Rattle.bf_store.specs.Stores.{IsOf};
 ghost use Rattle.bf_store.specs.States.{IsComplete};
 ghost use Rattle.bf_sql.specs.Bound.{catalog_of};
-ghost use Rattle.bf_machine.specs.interleaving.Calls.{CanCommit, IsCovered, IsPlace};
-ghost use Rattle.bf_machine.specs.interleaving.Events.{EndsByLog};
-ghost use Rattle.bf_machine.specs.interleaving.Journals.{AreSaid, IsOneRecord, Keeps};
+ghost use Rattle.bf_machine.specs.interleaving.Calls.{CanCommit, IsCovered, IsPlace, slot_of};
+ghost use Rattle.bf_machine.specs.interleaving.Events.{EndsByLog, Moves};
+ghost use Rattle.bf_machine.specs.interleaving.Journals.{AreSaid, IsRefused, IsUnkeptMove, Keeps};
+ghost use Rattle.bf_tree.specs.declared.reply.Cause.{Cause as Told};
 ghost use Rattle.bf_machine.specs.interleaving.Kept.{is_of_log};
 ghost use Rattle.bf_machine.specs.interleaving.Machines.{Open, open_at};
 ghost use Rattle.bf_machine.specs.interleaving.Serving.{LeavesStore};
@@ -23,6 +25,8 @@ use bf_base::{Granule, Memory};
 use bf_image::{CatalogPass, MigrationPass, Registry, ValueIndexes};
 use bf_locks::{LockAnswer, LockName, Mode};
 use bf_machine::{Journal, Machine, MoveError, Opened, Stand, Step};
+use bf_store::Images;
+use bf_trackers::Work;
 use bf_transpose::Cover;
 use bf_tree::Cause;
 use std::alloc::Global;
@@ -279,7 +283,7 @@ pub(crate) fn run_statement<N: Opened>(
     }
 }
 
-/// Commits a session's group, and adds the catalog to the registry where it has changed.
+/// Commits a session's group, adds the catalog to the registry where it has changed, and tells whether it has.
 ///
 /// # Errors
 /// Where [`Machine::commit`] has one. The machine is as it was then.
@@ -291,7 +295,7 @@ pub(crate) fn commit<N: Opened, J: Journal, R: Wait>(
     journal: &mut J,
     catalog: &mut Option<CatalogPass>,
     session: u32,
-) -> Result<(), Memory>
+) -> Result<bool, Memory>
     requires registry { registry.now ≡ N.registry }
     requires logged { J.ends ≡ N.logged }
     requires said { AreSaid J.Says N.script }
@@ -304,13 +308,14 @@ pub(crate) fn commit<N: Opened, J: Journal, R: Wait>(
 {
     let number = machine.catalog().number();
     machine.commit(rt, registry, journal, session)?;
-    if machine.catalog().number() != number {
+    let has_changed = machine.catalog().number() != number;
+    if has_changed {
         *catalog = present_catalog(alloc, rt, registry, machine);
     }
-    Ok(())
+    Ok(has_changed)
 }
 
-/// Moves granules of a migration, and tells whether they have moved. Where the journal does not keep the move, the open
+/// Does work by the images of its granules, and tells whether they have moved. Where the journal does not keep the move, the open
 /// group of the session that needs them ends by the journal's cause, if a session does.
 ///
 /// # Errors
@@ -320,21 +325,28 @@ pub(crate) fn move_for<N: Opened, J: Journal>(
     machine: &mut Machine<N>,
     journal: &mut J,
     session: Option<u32>,
-    migration: &MigrationPass,
+    work: &Work,
     indexes: &ValueIndexes,
-    granules: &[Granule],
+    images: Images,
 ) -> Result<bool, Memory>
     requires registry { registry.now ≡ N.registry }
     requires logged { J.ends ≡ N.logged }
     requires place { IfSome session (IsPlace machine.old.script) }
-    requires pass { Shows N.registry.migrations migration.now }
-    requires indexed { indexes.now ≡ value_indexes migration.now.value }
-    requires granules { IsOneRecord (Some (migration_of migration.now.value [])) granules.now }
+    requires pass { Shows N.registry.migrations work.now.pass }
+    requires indexed { indexes.now ≡ value_indexes work.now.pass.value }
+    requires images { AreImages work.now.pass.value work.now.granules images }
+    ensures moves { result ≡ Ok true → Moves machine.old work.now.granules machine.new }
+    ensures of_it { result ≡ Ok true
+        → option_map (λ pass. pass.value) machine.old.pass ≡ Some work.now.pass.value }
+    ensures refused { result ≡ Ok false → (slot_of machine.old.pass ≢ Some work.now.pass.index)
+        ⊎ ((cause : Told) × IsRefused J.Answers (IsUnkeptMove machine.old.lazy cause)
+        machine.old.lazy journal.old journal.new cause) }
     ensures keeps { Keeps J.Answers N.opening machine.old journal.old machine.new
         journal.new }
     ensures same { catalog_of machine.new.db ≡ catalog_of machine.old.db }
 {
-    match machine.moved(registry, journal, migration, indexes, granules) {
+    let (pass, granules) = (work.pass(), work.granules());
+    match machine.moved(registry, journal, pass, indexes, granules, Some(images)) {
         Ok(_) => Ok(true),
         Err(MoveError::Old(_)) => Ok(false),
         Err(MoveError::Ended(cause)) => {

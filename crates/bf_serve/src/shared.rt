@@ -26,8 +26,10 @@ pub struct Shared<'r, 'g, N: Beginning<J>, J: Journal, R: Wait, G: Gate> {
     pub(crate) rt: &'r R,
     pub(crate) gate: &'r G,
     pub(crate) engine: Mutex<Engine<N, J>>,
-    /// Told each time that others may go on.
+    /// Told each time that sessions may go on.
     pub(crate) happened: Condvar,
+    /// Told each time that workers may have something to move, or are to end.
+    pub(crate) called: Condvar,
     /// Whoever makes the old rows of a migration by their values has it, so that they are made once.
     pub(crate) making: Mutex<()>,
     pub(crate) registry: &'g Registry,
@@ -62,35 +64,51 @@ impl<'r, 'g, N: Beginning<J>, J: Journal, R: Wait, G: Gate> Shared<'r, 'g, N, J,
         self.engine.lock(self.rt).phase()
     }
 
-    /// Tells those who wait that they may go on.
+    /// Tells sessions that wait that they may go on.
     pub(crate) fn wake(&self) {
         self.happened.notify_all();
+    }
+
+    /// Tells sessions that wait that they may go on, and workers that rest that they may have something to move.
+    pub(crate) fn wake_all(&self) {
+        self.wake();
+        self.called.notify_all();
     }
 
     /// Notes that memory ran out for an actor, so that each other one ends too.
     pub(crate) fn run_out(&self) {
         self.engine.lock(self.rt).run_out();
-        self.wake();
+        self.wake_all();
     }
 
     /// Notes that granules are free again, for which others may wait.
     pub(crate) fn note_given_back(&self) {
         self.engine.lock(self.rt).note_given_back();
-        self.wake();
+        self.wake_all();
     }
 
     /// Notes that granules are free again whose move was refused.
     pub(crate) fn note_refused(&self) {
         self.engine.lock(self.rt).note_refused();
-        self.wake();
+        self.wake_all();
     }
 
-    /// Waits until more has happened than a count tells, or memory has run out.
+    /// Waits as a session until more has happened than a count tells, or memory has run out.
     pub(crate) fn wait_for(&self, seen: u64) {
         let engine = self
             .happened
             .wait_while(self.rt, self.engine.lock(self.rt), |engine| {
                 engine.count() <= seen && !engine.is_out_of_memory()
+            });
+        drop(engine);
+    }
+
+    /// Rests as a worker until more has happened that workers rest for than a count tells, or memory has run out.
+    pub(crate) fn rest_for(&self, seen: u64) {
+        let engine = self
+            .called
+            .wait_while(self.rt, self.engine.lock(self.rt), |engine| {
+                engine.calls() <= seen && !engine.is_out_of_memory()
             });
         drop(engine);
     }
@@ -129,9 +147,13 @@ impl<'r, 'g, N: Beginning<J>, J: Journal, R: Wait, G: Gate> Shared<'r, 'g, N, J,
                 self.wake();
                 Ok(Step::Again)
             }
+            Due::EndingSchema => {
+                self.wake_all();
+                Ok(Step::Again)
+            }
             Due::Wait(seen) => Ok(Step::Wait(seen)),
             Due::Ended => {
-                self.wake();
+                self.wake_all();
                 Ok(Step::Ended)
             }
             Due::Statement(at, is_left) => self.drive(at, is_left),

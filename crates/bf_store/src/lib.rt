@@ -5,6 +5,7 @@
 mod anchor;
 mod done;
 mod flip;
+pub mod images;
 pub mod laws;
 pub mod moved;
 mod movement;
@@ -14,5 +15,6 @@ mod told;
 mod under_way;
 mod unit_marks;
 
+pub use images::Images;
 pub use moved::{MOST_MOVED, Moved, Receipt};
 pub use store::Store;

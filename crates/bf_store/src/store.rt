@@ -8,11 +8,13 @@ ghost use Rattle.bf_sql.specs.Database.{IsDatabase, stored_in_order, with_tables
 ghost use Rattle.bf_sql.specs.Meaning.{next_number, with_index};
 ghost use Rattle.bf_sql.specs.migrations.Lazy.{migrations_so_far};
 ghost use Rattle.bf_sql.specs.migrations.Plans.{plan_made};
+ghost use Rattle.bf_store.specs.Puts.{AreImagesIfAny};
 ghost use Rattle.bf_store.specs.Calls.{IsCommitOf, IsFlipOf, IsMoveOf, IsNeedOf, IsSweepOf, MayFlip, tells};
 ghost use Rattle.bf_store.specs.States.{AreGranulesIfAny, IsLazy, IsOpenLazily, granules_done_if_any, to_move};
 ghost use Rattle.bf_store.specs.Stores.{AreIndexesOf, IsByPass, IsOf};
 
 use crate::flip::flip;
+use crate::images::Images;
 use crate::moved::Moved;
 use crate::movement::move_granules;
 use crate::told::tells_any;
@@ -244,9 +246,10 @@ impl Store {
 
     /// Moves granules of the last migration, which differ, as one change: the rows that come from
     /// those that have not moved are put into the live tables. Where all of them have moved, nothing
-    /// changes. It costs what the granules have, and a look-up for each row and each granule; and it
-    /// looks at each anchor from the next one on up to the first whose granule has not moved, so over a
-    /// migration at each about once.
+    /// changes. Their images may have been made before; they are made now where they were not, or where some
+    /// of the granules have moved. It costs a look-up for each row and each granule, and what the granules have
+    /// where images are made; and it looks at each anchor from the next one on up to the first whose granule
+    /// has not moved, so over a migration at each about once.
     ///
     /// # Errors
     /// Where memory runs out, or 2 ^ 32 granules or 2 ^ 64 changes were made. The store is as it
@@ -256,10 +259,12 @@ impl Store {
         registry: &Registry,
         indexes: &ValueIndexes,
         granules: &[Granule],
+        images: Option<Images>,
     ) -> Result<Moved, Memory>
         requires one { IsOf registry.now self.old.migration }
         requires indexed { AreIndexesOf self.old.migration indexes.now }
         requires granules { AreGranulesIfAny self.old.lazy.last granules.now }
+        requires images { AreImagesIfAny self.old.migration granules.now images }
         ensures ok { IfOk result (λ moved.
             IsMoveOf self.old.lazy self.new.lazy granules.now moved) }
         ensures migration { self.new.migration ≡ self.old.migration }
@@ -282,6 +287,7 @@ impl Store {
             migration,
             indexes,
             granules,
+            images,
         );
         self.last = Some(last);
         moved

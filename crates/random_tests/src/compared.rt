@@ -7,7 +7,7 @@ use crate::replay::{Told, tell};
 use crate::writer::Writer;
 use bf_disk::MemoryShelf;
 use bf_io::{CalmSource, MemorySink};
-use bf_run::{Status, bullfrog};
+use bf_run::{OpenGate, Status, bullfrog};
 use bf_tree::{Reply, Transcripts};
 use std::alloc::Global;
 use std::sync::Wait;
@@ -43,7 +43,7 @@ fn reported(
     let mut input = CalmSource::new(text.to_vec(alloc)?);
     let mut output = MemorySink::new(alloc, 1 << 16, Vec::new(alloc))?;
     let mut shelf = MemoryShelf::new(alloc);
-    let status = bullfrog(rt, alloc, &["try"], &mut input, &mut output, &mut shelf);
+    let status = bullfrog(rt, alloc, &["try"], &mut input, &mut output, &mut shelf, &OpenGate);
     if status != Status::Done {
         return Err("no report".into());
     }

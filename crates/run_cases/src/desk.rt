@@ -7,7 +7,7 @@ use crate::narrow::Narrow;
 use anyhow::{Context, bail};
 use bf_disk::{MemoryShelf, TapeDisk};
 use bf_io::{MemorySink, MemorySource};
-use bf_run::{Status, bullfrog};
+use bf_run::{OpenGate, Status, bullfrog};
 use case_files::tell_bytes;
 use std::alloc::{AllocError, Global};
 use std::sync::Wait;
@@ -91,7 +91,7 @@ impl Desk {
         let writes = numbers(alloc, failing.write)?;
         let inner = MemorySink::new(alloc, LONGEST_REPORT, writes)?;
         let mut output = Narrow { inner };
-        let status = bullfrog(rt, alloc, words, &mut input, &mut output, &mut self.shelf);
+        let status = bullfrog(rt, alloc, words, &mut input, &mut output, &mut self.shelf, &OpenGate);
         let printed = String::from_utf8_lossy(alloc, output.inner.bytes())?;
         tell_end(printed.as_str(), status, told)
     }

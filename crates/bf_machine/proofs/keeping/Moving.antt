@@ -2,6 +2,7 @@
 use Rattle.std.proofs.Common.{◌≡◌, ℕ, Bool, List, [], Option, Some, None, refl, sym, ap, ap₂, subst, ◌∙◌, option_map}
 use Rattle.std.specs.Global.{Vec}
 use Rattle.std.specs.Option.{option_map_or}
+use Rattle.std.specs.Prelude.{IfSome}
 use Rattle.std.proofs.lemmas.Option.{same_Some}
 use Rattle.boxcar.specs.Table.{Where}
 use Rattle.bf_base.specs.declared.granule.Granule.{Granule}
@@ -15,6 +16,8 @@ use Rattle.bf_image.specs.Migrations.{value_indexes}
 use Rattle.bf_image.specs.Registries.{Registry}
 use Rattle.bf_image.specs.declared.migration.Migration.{Migration as Kept}
 use Rattle.bf_image.specs.declared.value_indexes.UnitIndex.{UnitIndex}
+use Rattle.bf_live.specs.Live.{NamedRows}
+use Rattle.bf_store.specs.Puts.{AreImages, AreImagesIfAny}
 use Rattle.bf_store.specs.States.{AreGranules, AreGranulesIfAny, with_moved}
 use Rattle.bf_store.specs.Stores.{AreIndexesOf, IsByPass, IsOf, Store, migration_of}
 use Rattle.bf_store.proofs.moving.Ordered.{moves_in_order}
@@ -39,6 +42,12 @@ pub indexes_of_it : (own : Option (Where Kept)) (value : Kept) → option_map (�
     → AreIndexesOf own indexes
 indexes_of_it None value same indexes is = tt
 indexes_of_it (Some own) value same indexes is = is ∙ ap value_indexes (sym (same_Some own.value value same))
+
+pub images_of_it : (own : Option (Where Kept)) (value : Kept) → option_map (λ (p : Where Kept). p.value) own ≡ Some value → (granules : List Granule) (images : Option (List NamedRows))
+    → IfSome images (AreImages value granules) → AreImagesIfAny own granules images
+images_of_it None value same granules images are = tt
+images_of_it (Some own) value same granules None are = tt
+images_of_it (Some own) value same granules (Some puts) are = subst (λ (v : Kept). AreImages v granules puts) (sym (same_Some own.value value same)) are
 
 pub number_is : (last : Option Migration) (own : Option (Where Kept)) → IsByPass last own → option_map_or (λ (p : Where Kept). p.value.number) own 0 ≡ migrations_so_far last
 number_is None None by = refl

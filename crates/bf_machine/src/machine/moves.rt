@@ -1,11 +1,12 @@
 //! The migration under way, and granules of it that move.
 
-ghost use Rattle.std.specs.Prelude.{◌≡◌, ◌≢◌, ◌↔◌, ℕ, [], Err, IfOk, IsSomeAnd, IsTrue, Ok, OnErr, OnOk, Some, false, true};
+ghost use Rattle.std.specs.Prelude.{◌≡◌, ◌≢◌, ◌↔◌, ℕ, [], Err, IfOk, IfSome, IsSomeAnd, IsTrue, Ok, OnErr, OnOk, Some, false, true};
 ghost use Rattle.std.specs.Option.{option_map, option_map_or};
 ghost use Rattle.boxcar.specs.Table.{Shows};
 ghost use Rattle.bf_sql.specs.migrations.Lazy.{migrations_so_far};
 ghost use Rattle.bf_image.specs.Migrations.{value_indexes};
 ghost use Rattle.bf_store.specs.Calls.{IsMoveOf, IsSweepOf};
+ghost use Rattle.bf_store.specs.Puts.{AreImages};
 ghost use Rattle.bf_store.specs.States.{IsComplete, granules_done_if_any, to_move, with_moved};
 ghost use Rattle.bf_store.specs.Stores.{IsByPass, IsOf, migration_of};
 ghost use Rattle.bf_tree.specs.declared.reply.Cause.{Cause};
@@ -22,7 +23,7 @@ use crate::opened::Opened;
 use crate::stand::MoveError;
 use bf_base::{Granule, Memory};
 use bf_image::{MigrationPass, Registry, ValueIndexes};
-use bf_store::{Moved, Store};
+use bf_store::{Images, Moved, Store};
 use bf_tree::Sweep;
 use std::alloc::Global;
 
@@ -73,7 +74,7 @@ impl<N: Opened> Machine<N> {
     }
 
     /// Moves granules of a migration that one record may move, as one change, given its old rows by their
-    /// values. The move of those that have not moved is kept in the journal before; where all have, nothing
+    /// values, and their images where these were made before. The move of those that have not moved is kept in the journal before; where all have, nothing
     /// is kept. No session goes on, and the database that sessions see stays. It costs what the journal
     /// does, and what [`bf_store::Store::move_granules`] does.
     ///
@@ -88,13 +89,17 @@ impl<N: Opened> Machine<N> {
         migration: &MigrationPass,
         indexes: &ValueIndexes,
         granules: &[Granule],
+        images: Option<Images>,
     ) -> Result<Moved, MoveError>
         requires registry { registry.now ≡ N.registry }
         requires pass { Shows N.registry.migrations migration.now }
         requires indexed { indexes.now ≡ value_indexes migration.now.value }
         requires logged { J.ends ≡ N.logged }
         requires granules { IsOneRecord (Some (migration_of migration.now.value [])) granules.now }
+        requires images { IfSome images (AreImages migration.now.value granules.now) }
         ensures moves { OnOk result (Moves self.old granules.now self.new) }
+        ensures of_it { OnOk result
+            (option_map (λ pass. pass.value) self.old.pass ≡ Some migration.now.value) }
         ensures told { IfOk result (λ moved.
             IsMoveOf self.old.lazy self.new.lazy granules.now moved) }
         ensures old { slot_of self.old.pass ≢ Some migration.now.index
@@ -117,7 +122,9 @@ impl<N: Opened> Machine<N> {
             return Err(MoveError::Old(number_of(registry, last)));
         }
         let kept = keep_left(self.alloc, journal, &self.store, granules)?;
-        match self.store.move_granules(registry, indexes, granules) {
+        match self
+            .store
+            .move_granules(registry, indexes, granules, images) {
             Ok(moved) => Ok(moved),
             Err(_) => {
                 if kept {

@@ -69,3 +69,7 @@ returns-clause-nothing c = λ none.
     let fresh : moving ≡ left_of c.args.last.now.done c.args.granules.now = c.deref-2.ensures.value ∙ c.in_ok-parted.ensures.left in
     let some : 0 < length moving = some_length c.in_ok-parted.parted.left moving (sym c.is_empty.ensures ∙ c.if-is_empty.false) c.deref-2.ensures.value in
     absurd (omega (arith, some, ap (λ (gs : List Granule). length gs) (fresh ∙ none)))
+
+-- where as many granules are left as there were, the images that were made are of those
+pub move_in-requires-clause-images : goal.move_in-requires-clause-images
+move_in-requires-clause-images c = ?

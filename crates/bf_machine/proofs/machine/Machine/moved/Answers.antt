@@ -20,7 +20,7 @@ use Rattle.bf_machine.specs.interleaving.Kept.{is_of_log}
 use Rattle.bf_machine.specs.interleaving.Machines.{Machine}
 use Rattle.bf_machine.specs.interleaving.Seen.{IsSound, seen}
 use Rattle.bf_machine.proofs.keeping.Beside.{moved_beside, none_beside, unkept_beside}
-use Rattle.bf_machine.proofs.keeping.Moving.{indexes_of_it, moved_sound, moves, number_is, of_the_last}
+use Rattle.bf_machine.proofs.keeping.Moving.{images_of_it, indexes_of_it, moved_sound, moves, number_is, of_the_last}
 use Rattle.bf_machine.proofs.keeping.Records.{one_record_of_the_last}
 use Rattle.bf_machine.proofs.machine.Machine.moved.Goals.{then-kept, else-kept}
 use Rattle.bf_machine.proofs.machine.Machine.moved.Goals as goal
@@ -63,6 +63,14 @@ move_granules-requires-clause-indexed g c =
     let passes = by_copied (λ (p : Where Kept). p.value) c.as_ref-last.result ∙ ap (option_map (λ (p : Where Kept). p.value)) (c.as_ref-last.ensures.value ∙ c.migration-last.ensures.pass) in
     let same : option_map (λ (p : Where Kept). p.value) own ≡ Some value = sym (c.are_same-same.ensures.values c.if-not-same.false ∙ passes) in
     indexes_of_it own value same c.args.indexes.now c.requires.indexed
+
+pub move_granules-requires-clause-images : goal.move_granules-requires-clause-images
+move_granules-requires-clause-images g c =
+    let own = c.self.inside.store.migration in
+    let value = c.args.migration.now.value in
+    let passes = by_copied (λ (p : Where Kept). p.value) c.as_ref-last.result ∙ ap (option_map (λ (p : Where Kept). p.value)) (c.as_ref-last.ensures.value ∙ c.migration-last.ensures.pass) in
+    let same : option_map (λ (p : Where Kept). p.value) own ≡ Some value = sym (c.are_same-same.ensures.values c.if-not-same.false ∙ passes) in
+    images_of_it own value same c.args.granules.now c.args.images c.requires.images
 
 pub keep_left-requires : goal.keep_left-requires
 keep_left-requires g c =
@@ -125,6 +133,13 @@ returns-in-Ok-clause-moves g c =
     subst (λ (m : Machine). Moves m c.args.granules.now next) c.self.view_is
     (moves g.N.Opened.logged i.script i.retries i.store i.locks i.began.items i.sessions.items i.history i.commits i.transcripts c.self.invariant.0
     c.args.granules.now are c.move_granules.new.self c.in-Ok.ensures.ok.state c.in-Ok.ensures.migration)
+
+pub returns-in-Ok-clause-of_it : goal.returns-in-Ok-clause-of_it
+returns-in-Ok-clause-of_it g c =
+    let value = c.args.migration.now.value in
+    let passes = by_copied (λ (p : Where Kept). p.value) c.as_ref-last.result ∙ ap (option_map (λ (p : Where Kept). p.value)) (c.as_ref-last.ensures.value ∙ c.migration-last.ensures.pass) in
+    let same : option_map (λ (p : Where Kept). p.value) c.self.inside.store.migration ≡ Some value = sym (c.are_same-same.ensures.values c.if-not-same.false ∙ passes) in
+    ap (λ (m : Machine). option_map (λ (p : Where Kept). p.value) m.pass) (sym c.self.view_is) ∙ same
 
 pub returns-in-Ok-clause-told : goal.returns-in-Ok-clause-told
 returns-in-Ok-clause-told g c = subst (λ (m : Machine). IsMoveOf m.lazy c.move_granules.new.self.lazy c.args.granules.now c.in-Ok.moved) c.self.view_is c.in-Ok.ensures.ok

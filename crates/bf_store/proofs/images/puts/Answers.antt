@@ -11,7 +11,7 @@ use Rattle.bf_image.specs.Migrations.{old_of, target_at}
 use Rattle.bf_image.proofs.owning.Armed.{HasArmedTarget, part_armed}
 use Rattle.bf_image.proofs.planning.Numbered.{each_append}
 use Rattle.bf_store.specs.Puts.{ArePuts, Put}
-use Rattle.bf_store.proofs.movement.puts.Goals as goal
+use Rattle.bf_store.proofs.images.puts.Goals as goal
 
 abbrev Numbered : Type 0
 Numbered = ℕ × List Value

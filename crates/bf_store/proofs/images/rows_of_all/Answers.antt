@@ -7,7 +7,7 @@ use Rattle.bf_image.specs.Migrations.{IsPartBehind, old_of, target_at}
 use Rattle.bf_image.specs.declared.migration.Migration.{Migration}
 use Rattle.bf_image.proofs.parting.Blocks.{one_more_block}
 use Rattle.bf_store.specs.Puts.{Put}
-use Rattle.bf_store.proofs.movement.rows_of_all.Goals as goal
+use Rattle.bf_store.proofs.images.rows_of_all.Goals as goal
 
 pub loop-granule-preserved : goal.loop-granule-preserved
 loop-granule-preserved c =

@@ -11,7 +11,7 @@ use Rattle.bf_image.specs.Migrations.{old_of, target_at}
 use Rattle.bf_live.specs.Live.{NamedRows}
 use Rattle.bf_store.specs.Puts.{ArePuts}
 use Rattle.bf_store.proofs.moving.Gathered.{its_name, its_table, no_target, none_put_there, one_put_more}
-use Rattle.bf_store.proofs.movement.put_row.Goals as goal
+use Rattle.bf_store.proofs.images.put_row.Goals as goal
 
 -- there is no such target
 pub returns-in_default : goal.returns-in_default

@@ -1,6 +1,6 @@
 use Rattle.std.proofs.Common.{◌≡◌, map, take}
 use Rattle.bf_store.proofs.moving.Gathered.{alone}
-use Rattle.bf_store.proofs.movement.no_puts.Given as goal
+use Rattle.bf_store.proofs.images.no_puts.Given as goal
 
 -- the tables so far are there
 abbrev pub invariant-loop-table : goal.invariant-loop-table

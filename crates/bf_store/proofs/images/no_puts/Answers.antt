@@ -2,7 +2,7 @@ use Rattle.std.proofs.Common.{[], map, subst, sym, ap, ◌∙◌}
 use Rattle.std.proofs.lemmas.List.{take_all}
 use Rattle.bf_store.specs.Puts.{ArePuts}
 use Rattle.bf_store.proofs.moving.Gathered.{alone, none_put}
-use Rattle.bf_store.proofs.movement.no_puts.Goals as goal
+use Rattle.bf_store.proofs.images.no_puts.Goals as goal
 
 pub returns : goal.returns
 returns c =

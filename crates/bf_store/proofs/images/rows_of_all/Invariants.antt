@@ -2,7 +2,7 @@ use Rattle.std.proofs.Common.{◌≡◌, flat_map, map, take, IfSome}
 use Rattle.bf_sql.specs.migrations.Granules.{part_of}
 use Rattle.bf_image.specs.FrozenUnits.{IsUnitIn}
 use Rattle.bf_image.specs.Migrations.{old_of, target_at}
-use Rattle.bf_store.proofs.movement.rows_of_all.Given as goal
+use Rattle.bf_store.proofs.images.rows_of_all.Given as goal
 
 -- the rows of the granules so far, and the unit that was looked up last
 abbrev pub invariant-loop-granule : goal.invariant-loop-granule

@@ -2,7 +2,7 @@ use Rattle.std.proofs.Common.{◌≡◌, ◌++◌, map}
 use Rattle.std.specs.Vec.Iter.{into_iter_items}
 use Rattle.bf_image.specs.Migrations.{target_at}
 use Rattle.bf_store.specs.Puts.{ArePuts}
-use Rattle.bf_store.proofs.movement.puts.Given as goal
+use Rattle.bf_store.proofs.images.puts.Given as goal
 
 -- the rows so far are put
 abbrev pub invariant-loop-target : goal.invariant-loop-target
