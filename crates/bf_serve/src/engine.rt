@@ -111,7 +111,7 @@ pub(crate) struct MovedWork<N: Beginning<J>, J: Journal> {
     work: Snapshot<Work>,
     opened: PhantomData<N>,
     journal: PhantomData<J>,
-    ghost moved: { HasMoved J.Answers N.opening N.begins work.value.pass work.value.granules },
+    ghost moved: { ∥ HasMoved J.Answers N.opening N.begins work.value.pass work.value.granules ∥₁ },
 }
 
 /// What a session is to do next.
