@@ -1,14 +1,14 @@
 //! Random scripts, each told by the top call and by the one-thread database.
 
-use crate::asked::Asked;
 use crate::cases::Case;
 use crate::counts::Counts;
-use crate::replay::{Told, tell};
-use crate::writer::Writer;
+use crate::sequence::{Told, tell};
 use bf_disk::MemoryShelf;
 use bf_io::{CalmSource, MemorySink};
 use bf_run::{OpenGate, Status, bullfrog};
 use bf_tree::{Reply, Transcripts};
+use random_scripts::Writer;
+use random_scripts::asked::Asked;
 use std::alloc::Global;
 use std::sync::Wait;
 use std::test::Fail;
@@ -43,7 +43,15 @@ fn reported(
     let mut input = CalmSource::new(text.to_vec(alloc)?);
     let mut output = MemorySink::new(alloc, 1 << 16, Vec::new(alloc))?;
     let mut shelf = MemoryShelf::new(alloc);
-    let status = bullfrog(rt, alloc, &["try"], &mut input, &mut output, &mut shelf, &OpenGate);
+    let status = bullfrog(
+        rt,
+        alloc,
+        &["try"],
+        &mut input,
+        &mut output,
+        &mut shelf,
+        &OpenGate,
+    );
     if status != Status::Done {
         return Err("no report".into());
     }
