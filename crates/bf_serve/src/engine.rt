@@ -106,6 +106,7 @@ impl<N: Beginning<J>, J: Journal> Model for Engine<N, J> {
 
 /// That the granules of some work have moved in this run. Only [`Engine::move_granules`] makes one, and only with one do claims end
 /// as moved.
+#[derive(Drop)]
 pub(crate) struct MovedWork<N: Beginning<J>, J: Journal> {
     work: Snapshot<Work>,
     opened: PhantomData<N>,
@@ -496,7 +497,9 @@ impl<N: Beginning<J>, J: Journal> Engine<N, J> {
         ensures { IfOk result (λ moved. IfSome moved (λ moved. moved.work.value ≡ work.now)) }
     {
         let Engine {
-            machine, journal, ..
+            machine,
+            journal,
+            ..
         } = self;
         let _ = machine.script();
         let has_moved = move_for(registry, machine, journal, session, work, indexes, images);
