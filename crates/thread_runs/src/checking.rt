@@ -62,7 +62,7 @@ impl Rerun {
     }
 
     /// The report up to how far the last migration has come, which no reply tells.
-    fn report(mut self, replay: &Replay, sessions: &[Session]) -> anyhow::Result<Vec<u8>> {
+    fn report(self, replay: &Replay, sessions: &[Session]) -> anyhow::Result<Vec<u8>> {
         let mut transcripts = Vec::new(self.alloc);
         for (mut replies, session) in self.replies.into_iter().zip(sessions) {
             put_strays(&mut replies, session.statements.len())?;
