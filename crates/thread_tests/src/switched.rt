@@ -1,9 +1,11 @@
 //! A shelf with one file, whose disk fails each call once a switch is set.
 
-ghost use Rattle.std.specs.Prelude.{◌≡◌, ℕ, None, false, List, IfOk};
+ghost use Rattle.std.specs.Prelude.{◌≡◌, ℕ, ◌+◌, ◌≤◌, None, true, false, List, IfOk, length};
 ghost use Rattle.std.proofs.lemmas.Bool.{false≢true};
+ghost use Rattle.bf_io.specs.Causes.{last_count};
 ghost use Rattle.bf_disk.specs.Answers.{CountsFault};
 ghost use Rattle.bf_disk.specs.MemoryShelves.{taken_at};
+ghost use Rattle.bf_disk.specs.Tape.{file_of};
 
 use crate::calls::LOG;
 use bf_base::Memory;
@@ -36,19 +38,22 @@ impl<'s> Model for SwitchedDisk<'s> {
 impl<'s> SwitchedDisk<'s> {
     // Fails where the switch is set.
     fn pass(&mut self) -> Result<(), DiskError>
-        ensures { CountsFault result self.old self.new }
+        ensures faults { CountsFault result self.old self.new }
+        ensures counted { self.new ≤ last_count }
     {
         if self.switch.load(Ordering::SeqCst) {
             self.broken.len()?;
         }
         Ok(())
     }
+}
 
-    // Whether so many bytes stand behind an offset.
-    fn has(&self, at: u64, count: u64) -> bool {
-        let there = self.tape.bytes().len() as u64;
-        at.checked_add(count).is_some_and(|end| end <= there)
-    }
+// Whether so many bytes stand behind an offset.
+fn has(tape: &TapeDisk, at: u64, count: usize) -> bool
+    ensures { result ≡ true → at + count ≤ length (file_of tape.now) }
+{
+    let there = tape.bytes().len() as u64;
+    at <= there && count as u64 <= there - at
 }
 
 // The tape's own calls never fail, but for want of memory.
@@ -93,7 +98,7 @@ impl<'s> Disk for SwitchedDisk<'s> {
 
     fn read(&mut self, at: u64, into: &mut [u8]) -> Result<(), DiskError> {
         self.pass()?;
-        if !self.has(at, into.len() as u64) {
+        if !has(&self.tape, at, into.len()) {
             return Err(DiskError::Memory);
         }
         answer(self.tape.read(at, into))
@@ -101,7 +106,7 @@ impl<'s> Disk for SwitchedDisk<'s> {
 
     fn write_at(&mut self, at: u64, bytes: &[u8]) -> Result<(), DiskError> {
         self.pass()?;
-        if !self.has(at, 0) {
+        if !has(&self.tape, at, 0) {
             return Err(DiskError::Memory);
         }
         answer(self.tape.write_at(at, bytes))
@@ -109,7 +114,7 @@ impl<'s> Disk for SwitchedDisk<'s> {
 
     fn cut(&mut self, len: u64) -> Result<(), DiskError> {
         self.pass()?;
-        if !self.has(len, 0) {
+        if !has(&self.tape, len, 0) {
             return Err(DiskError::Memory);
         }
         answer(self.tape.cut(len))
