@@ -28,9 +28,9 @@ const STATEMENTS: u32 = 8;
 const UPDATE: u32 = 4;
 
 /// The most calls of a device at which a run is let fail, and how far these stand apart.
-const MOST_CALLS: u64 = 400;
+const MOST_CALLS: u64 = 160;
 
-const APART: usize = 7;
+const APART: usize = 5;
 
 /// The shelf of one file.
 fn shelf_with(alloc: Global, disk: TapeDisk) -> Result<MemoryShelf, Fail>
@@ -250,6 +250,6 @@ fn a_device_that_fails_leaves_what_was_told(rt: HostRuntime) -> Result<(), Fail>
             );
         }
     }
-    assert!(rt; failed > 20, "{failed} runs whose device failed");
+    assert!(rt; failed > 10, "{failed} runs whose device failed");
     Ok(())
 }
