@@ -16,13 +16,13 @@ returns-then-number-clause-keeps g c =
     let by = c.commit.ensures in
     keeps_by_commit g.J.Journal.Answers g.N.Opened.opening c.args.machine.now c.commit.new.self c.args.journal.now c.commit.new.journal c.args.session c.commit.result by.ending by.err by.beside by.refused
 
-pub returns-else-number-clause-keeps : goal.returns-else-number-clause-keeps
-returns-else-number-clause-keeps g c =
+pub returns-clause-keeps : goal.returns-clause-keeps
+returns-clause-keeps g c =
     let by = c.commit.ensures in
     keeps_by_commit g.J.Journal.Answers g.N.Opened.opening c.args.machine.now c.commit.new.self c.args.journal.now c.commit.new.journal c.args.session c.commit.result by.ending by.err by.beside by.refused
 
-pub returns-else-number-clause-present : goal.returns-else-number-clause-present
-returns-else-number-clause-present g c =
+pub returns-clause-present : goal.returns-clause-present
+returns-clause-present g c =
     let m : Machine = c.args.machine.now in
     let next : Machine = c.commit.new.self in
     let before : c.number-number.result ≡ m.db.number = c.number-number.ensures ∙ ap (λ (k : Catalog). k.number) c.catalog.ensures.catalog in
