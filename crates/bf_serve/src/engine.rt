@@ -106,6 +106,7 @@ impl<N: Beginning<J>, J: Journal> Model for Engine<N, J> {
 
 /// That the granules of some work have moved in this run. Only [`Engine::move_granules`] makes one, and only with one do claims end
 /// as moved.
+#[derive(Drop)]
 pub(crate) struct MovedWork<N: Beginning<J>, J: Journal> {
     work: Snapshot<Work>,
     opened: PhantomData<N>,

@@ -3,6 +3,7 @@ pub mod Ahead
 pub mod Anchoring
 pub mod Completing
 pub mod Gathered
+pub mod Left
 pub mod Moves
 pub mod Moving
 pub mod Needing

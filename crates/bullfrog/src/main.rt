@@ -5,11 +5,13 @@
 #![tactic(auto)]
 
 mod filing;
+mod progress;
 mod reading;
 mod shelving;
 mod writing;
 
-use bf_run::{Status, bullfrog};
+use bf_run::{Gate, Status, bullfrog};
+use progress::Progress;
 use reading::Reading;
 use shelving::FileShelf;
 use std::alloc::{AllocError, Global};
@@ -35,31 +37,42 @@ fn texts(alloc: Global, words: &[String]) -> Result<Vec<&str>, AllocError> {
     words.iter().map(|word| word.as_str()).collect(alloc)
 }
 
-fn serve<R>(rt: &R, words: &[&str]) -> Status
+fn serve<R, G: Gate + Sync>(rt: &R, words: &[&str], gate: &G) -> Status
 where
     R: AllocGlobal + Files<File = File> + Input + Print + Threads + Wait + Sync,
 {
     let mut source = Reading::new(rt.reader());
     let mut sink = Writing::new(io::writer(rt));
     let mut shelf = FileShelf::new(rt);
-    bullfrog(rt, rt.alloc(), words, &mut source, &mut sink, &mut shelf)
+    bullfrog(
+        rt,
+        rt.alloc(),
+        words,
+        &mut source,
+        &mut sink,
+        &mut shelf,
+        gate,
+    )
 }
 
 /// Words that are not UTF-8 are served as none, which are wrong too.
-fn run<R>(rt: &R) -> Status
+fn run<R, G: Gate + Sync>(rt: &R, gate: &G) -> Status
 where
     R: Env + AllocGlobal + Files<File = File> + Input + Print + Threads + Wait + Sync,
 {
     match words(rt) {
         Ok(words) => match texts(rt.alloc(), words.as_slice()) {
-            Ok(texts) => serve(rt, texts.as_slice()),
+            Ok(texts) => serve(rt, texts.as_slice(), gate),
             Err(_) => Status::Memory,
         },
         Err(error) if error.kind() == ErrorKind::OutOfMemory => Status::Memory,
-        Err(_) => serve(rt, &[]),
+        Err(_) => serve(rt, &[], gate),
     }
 }
 
 fn main(rt: HostRuntime) -> ExitCode {
-    ExitCode::from(run(&rt).number())
+    let progress = Progress::new(rt.stderr());
+    let status = run(&rt, &progress);
+    progress.end();
+    ExitCode::from(status.number())
 }

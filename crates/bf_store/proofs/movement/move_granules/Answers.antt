@@ -1,15 +1,21 @@
-use Rattle.std.proofs.Common.{◌≡◌, ◌==◌, true, false, vec_len, ◌+◌, ◌<◌, List, [], length, map, Some, sym, ap, subst, ◌∙◌, arith}
+use Rattle.std.proofs.Common.{◌≡◌, ◌==◌, true, false, not, vec_len, ◌+◌, ◌<◌, List, [], length, map, Option, Some, sym, ap, subst, ◌∙◌, arith}
+use Rattle.std.specs.Prelude.{IfSome}
 use Rattle.std.specs.Global.{Vec}
 use Rattle.std.proofs.lemmas.Bool.Decides.{nat_tests}
 use Rattle.bf_base.specs.declared.granule.Granule.{Granule}
+use Rattle.bf_base.specs.Lists.{has}
 use Rattle.bf_sql.specs.Database.{Database}
+use Rattle.bf_sql.specs.migrations.Granules.{same_granule}
+use Rattle.bf_live.specs.Live.{NamedRows}
 use Rattle.bf_store.specs.Calls.{receipt_of}
-use Rattle.bf_store.specs.Marks.{left_of}
-use Rattle.bf_store.specs.Puts.{MayMove}
+use Rattle.bf_store.specs.Marks.{granules_in, left_of}
+use Rattle.bf_store.specs.Puts.{AreImages, MayMove}
 use Rattle.bf_store.specs.Stores.{IsStore, last_seen, lazy_seen, seen}
 use Rattle.bf_store.specs.declared.under_way.UnderWay.{UnderWay}
 use Rattle.bf_store.proofs.Storing.{one_more}
+use Rattle.bf_store.proofs.moving.Left.{all_are_left}
 use Rattle.bf_store.proofs.moving.Stored.{may_move, nothing_if, store_then, unmoved_state}
+use Rattle.bf_store.proofs.movement.move_granules.Goals.{then-len-granules, else-len-granules}
 use Rattle.bf_store.proofs.movement.move_granules.Goals as goal
 
 -- a vector is empty where its length is 0
@@ -72,4 +78,17 @@ returns-clause-nothing c = λ none.
 
 -- where as many granules are left as there were, the images that were made are of those
 pub move_in-requires-clause-images : goal.move_in-requires-clause-images
-move_in-requires-clause-images c = ?
+move_in-requires-clause-images c =
+    let m = c.args.migration.now in
+    let gs = c.args.granules.now in
+    let moving = c.deref-2.result.now in
+    let done = c.args.last.now.done in
+    let fresh : moving ≡ left_of done gs = c.deref-2.ensures.value ∙ c.in_ok-parted.ensures.left in
+    elim c.if-len-granules.branch as (λ _. IfSome c.if-len-granules.images2 (AreImages m moving)) [
+      | then-len-granules w ↦
+          let many : length c.in_ok-parted.parted.left.items ≡ length gs = omega (arith, w.if-len-granules.true, c.len-2.ensures, c.in_ok-parted.parted.left.ok.0) in
+          let all : left_of done gs ≡ gs = all_are_left (λ g. not (has same_granule (granules_in done) g)) gs (ap (λ (hs : List Granule). length hs) (sym c.in_ok-parted.ensures.left) ∙ many) in
+          subst (λ (hs : List Granule). IfSome c.if-len-granules.images2 (AreImages m hs)) (sym (fresh ∙ all))
+          (subst (λ (o : Option (List NamedRows)). IfSome o (AreImages m gs)) (sym w.images2-is) c.requires.images)
+      | else-len-granules w ↦ subst (λ (o : Option (List NamedRows)). IfSome o (AreImages m moving)) (sym w.images2-is) tt
+    ]
