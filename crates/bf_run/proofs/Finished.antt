@@ -1,5 +1,5 @@
 -- A run that was to finish, whose log takes records still: nothing is left to move, or the log is full.
-use Rattle.std.proofs.Common.{◌≡◌, ◌⊎◌, true, false, List, [], None, Some, Err, sym, ap, ◌∙◌, inl, inr, arith}
+use Rattle.std.proofs.Common.{◌≡◌, ◌⊎◌, true, false, None, Some, Err, sym, ap, ◌∙◌, inl, inr, arith}
 use Rattle.std.specs.Prelude.{IsTrue}
 use Rattle.bf_disk.specs.declared.disk.Disk.{Ghosts}
 use Rattle.bf_journal.specs.States.{IsReady}
