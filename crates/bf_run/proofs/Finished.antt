@@ -1,9 +1,10 @@
 -- A run that was to finish, whose log takes records still: nothing is left to move, or the log is full.
-use Rattle.std.proofs.Common.{◌≡◌, ◌⊎◌, true, false, None, Some, Err, sym, ap, ◌∙◌, inl, inr, arith}
+use Rattle.std.proofs.Common.{◌≡◌, ◌⊎◌, ℕ, ◌+◌, ◌≤◌, true, false, List, length, None, Some, Err, refl, sym, ap, ◌∙◌, inl, inr, arith}
 use Rattle.std.specs.Prelude.{IsTrue}
 use Rattle.bf_disk.specs.declared.disk.Disk.{Ghosts}
 use Rattle.bf_journal.specs.States.{IsReady}
 use Rattle.bf_log.specs.Append.{halted_of}
+use Rattle.bf_log.specs.Format.{frame}
 use Rattle.bf_log.specs.declared.log.Log.{Log}
 use Rattle.bf_machine.specs.declared.journal.KeepError.TheVariants.{Ended}
 use Rattle.bf_machine.specs.interleaving.Journals.{IsMoveIn, is_of_move}
@@ -15,9 +16,10 @@ use Rattle.bf_serve.specs.Finishing.{HasFinished}
 use Rattle.bf_sql.specs.migrations.Lazy.{LazyState, sweep_of}
 use Rattle.bf_tree.specs.declared.reply.Cause.{Cause}
 use Rattle.bf_tree.specs.declared.reply.Cause.TheVariants.{Died, DiskFault, Halted, LogFull, TooLarge}
-use Rattle.bf_run.specs.Answers.{HasAnswered}
-use Rattle.bf_run.specs.Options.{IsFull}
+use Rattle.bf_run.specs.Answers.{HasAnswered, largest_log, largest_record}
+use Rattle.bf_run.specs.Options.{IsFinished, IsFull}
 use Rattle.bf_run.specs.declared.log_journal.LogJournal.{LogJournal}
+use Rattle.bf_run.specs.declared.status.Status.TheVariants.{Done}
 use Rattle.bf_run.proofs.Running.{if_told}
 
 module _ {D : Type 0} {g : Ghosts D} where
@@ -54,3 +56,10 @@ module _ {D : Type 0} {g : Ghosts D} where
       → (says_complete (sweep_of m.lazy.last) ≡ true) ⊎ IsFull m.lazy (g.seen k.log.disk)
   finished m k ready (inl none) = inl (sweep_tells m.lazy.last ∙ ap is_empty none)
   finished m k ready (inr (cause, j, refused)) = inr (full_by m.lazy refused.0 j.log k.log ready cause refused.1.0 refused.1.1 refused.2)
+
+-- where there is room for any record, the log is not full
+pub with_room : (bytes : List ℕ) (last : LazyState) → IsFinished true Done (Some bytes) last → length bytes + largest_record + frame ≤ largest_log → says_complete (sweep_of last.last) ≡ true
+with_room bytes last is room = elim (is refl refl) as (λ _. says_complete (sweep_of last.last) ≡ true) [
+  | inl so ↦ so
+  | inr full ↦ absurd (omega (arith, full.within, full.fits, full.past, room))
+]
