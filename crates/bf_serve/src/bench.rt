@@ -49,7 +49,11 @@ impl<'r, 'g, N: Beginning<J>, J: Journal, R: Wait, G: Gate> Shared<'r, 'g, N, J,
     ///
     /// # Errors
     /// Where memory runs out.
-    fn move_work(&self, session: Option<u32>, work: &Work) -> Result<Option<MovedWork<N, J>>, Memory>
+    fn move_work(
+        &self,
+        session: Option<u32>,
+        work: &Work,
+    ) -> Result<Option<MovedWork<N, J>>, Memory>
         requires session { IfSome session (IsPlace N.script) }
         requires pass { Shows N.registry.migrations work.now.pass }
         ensures { IfOk result (λ moved. IfSome moved (λ moved. moved.work.value ≡ work.now)) }
@@ -58,13 +62,10 @@ impl<'r, 'g, N: Beginning<J>, J: Journal, R: Wait, G: Gate> Shared<'r, 'g, N, J,
         let indexes = lookups.indexes();
         let migration = self.registry.migration(work.pass());
         let images = Images::of(self.alloc, migration, indexes, work.granules())?;
-        let moved = self.engine.lock(self.rt).move_granules(
-            self.registry,
-            session,
-            work,
-            indexes,
-            images,
-        );
+        let moved = self
+            .engine
+            .lock(self.rt)
+            .move_granules(self.registry, session, work, indexes, images);
         self.wake_all();
         moved
     }

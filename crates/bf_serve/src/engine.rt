@@ -497,7 +497,9 @@ impl<N: Beginning<J>, J: Journal> Engine<N, J> {
         ensures { IfOk result (λ moved. IfSome moved (λ moved. moved.work.value ≡ work.now)) }
     {
         let Engine {
-            machine, journal, ..
+            machine,
+            journal,
+            ..
         } = self;
         let _ = machine.script();
         let has_moved = move_for(registry, machine, journal, session, work, indexes, images);

@@ -128,9 +128,7 @@ pub(crate) fn move_granules(
     } else {
         None
     };
-    move_in(
-        alloc, live, last, migration, indexes, &left, number, images,
-    )?;
+    move_in(alloc, live, last, migration, indexes, &left, number, images)?;
     *records = number;
     Ok(Moved { fresh, already })
 }

@@ -43,7 +43,15 @@ fn reported(
     let mut input = CalmSource::new(text.to_vec(alloc)?);
     let mut output = MemorySink::new(alloc, 1 << 16, Vec::new(alloc))?;
     let mut shelf = MemoryShelf::new(alloc);
-    let status = bullfrog(rt, alloc, &["try"], &mut input, &mut output, &mut shelf, &OpenGate);
+    let status = bullfrog(
+        rt,
+        alloc,
+        &["try"],
+        &mut input,
+        &mut output,
+        &mut shelf,
+        &OpenGate,
+    );
     if status != Status::Done {
         return Err("no report".into());
     }

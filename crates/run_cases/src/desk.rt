@@ -91,7 +91,15 @@ impl Desk {
         let writes = numbers(alloc, failing.write)?;
         let inner = MemorySink::new(alloc, LONGEST_REPORT, writes)?;
         let mut output = Narrow { inner };
-        let status = bullfrog(rt, alloc, words, &mut input, &mut output, &mut self.shelf, &OpenGate);
+        let status = bullfrog(
+            rt,
+            alloc,
+            words,
+            &mut input,
+            &mut output,
+            &mut self.shelf,
+            &OpenGate,
+        );
         let printed = String::from_utf8_lossy(alloc, output.inner.bytes())?;
         tell_end(printed.as_str(), status, told)
     }

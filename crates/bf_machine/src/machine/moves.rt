@@ -124,7 +124,8 @@ impl<N: Opened> Machine<N> {
         let kept = keep_left(self.alloc, journal, &self.store, granules)?;
         match self
             .store
-            .move_granules(registry, indexes, granules, images) {
+            .move_granules(registry, indexes, granules, images)
+        {
             Ok(moved) => Ok(moved),
             Err(_) => {
                 if kept {

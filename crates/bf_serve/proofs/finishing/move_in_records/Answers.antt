@@ -7,4 +7,3 @@ use Rattle.bf_machine.specs.interleaving.Journals.{Keeps, KeepsOrIsRefused, unke
 use Rattle.bf_machine.specs.interleaving.Machines.{Machine}
 use Rattle.bf_serve.proofs.Rest.{ended_stays}
 use Rattle.bf_serve.proofs.finishing.move_in_records.Goals as goal
-
