@@ -345,7 +345,8 @@ pub(crate) fn move_for<N: Opened, J: Journal>(
         journal.new }
     ensures same { catalog_of machine.new.db ≡ catalog_of machine.old.db }
 {
-    let (pass, granules) = (work.pass(), work.granules());
+    let pass = work.pass();
+    let granules = work.granules();
     match machine.moved(registry, journal, pass, indexes, granules, Some(images)) {
         Ok(_) => Ok(true),
         Err(MoveError::Old(_)) => Ok(false),

@@ -1,17 +1,19 @@
 -- A move of granules in a section: it is kept and made, or nothing is, or the journal refuses it by a cause, which may end a group.
 use Rattle.std.proofs.Common.{◌≡◌, ◌⊎◌, ℕ, List, [], refl, sym, ap, subst, ◌∙◌, inl, inr}
-use Rattle.std.specs.Prelude.{Result, Ok, Err}
+use Rattle.std.specs.Prelude.{Bool, Result, Ok, Err}
 use Rattle.bf_base.specs.declared.granule.Granule.{Granule}
 use Rattle.bf_sql.specs.Bound.{catalog_of}
 use Rattle.bf_sql.specs.Database.{Database}
 use Rattle.bf_sql.specs.migrations.Lazy.{LazyState}
 use Rattle.bf_tree.specs.declared.reply.Cause.{Cause}
 use Rattle.bf_machine.specs.declared.journal.KeepError.{KeepError}
+use Rattle.bf_machine.specs.declared.journal.KeepError.TheVariants.{Ended, Memory as NoMemory}
 use Rattle.bf_machine.specs.interleaving.Events.{EndsByLog, Moves, moves}
-use Rattle.bf_machine.specs.interleaving.Journals.{IsBeside, IsChangeOf, IsMoveIn, IsRefused, IsUnkeptMove, Keeps, nothing_yet, one_beside, unkept_move}
+use Rattle.bf_machine.specs.interleaving.Journals.{IsBeside, IsChangeOf, IsMoveIn, IsRefused, IsUnkeptMove, Keeps, KeepsOrIsRefused, nothing_yet, one_beside, unkept_move}
 use Rattle.bf_machine.specs.interleaving.Machines.{Machine}
 use Rattle.bf_machine.proofs.keeping.Beside.{beside_weaker}
 use Rattle.bf_machine.proofs.served.Keeping.{keeps_end, keeps_still}
+use Rattle.bf_serve.specs.Finishing.{HasStopped}
 use Rattle.bf_serve.proofs.threads.Catalogs.{ended_db}
 
 -- how a session that needs the granules ends, if one does
@@ -38,6 +40,15 @@ module _ {J : Type 0} (Answers : LazyState → LazyState → J → J → Result 
     where
       here : IsRefused Answers (IsUnkeptMove now.lazy cause) now.lazy j k cause
       here = subst (λ (n : Machine). IsRefused Answers (IsUnkeptMove n.lazy cause) n.lazy j k cause) (sym stays) not
+
+  -- records of moves, of which the journal may not have kept the last
+  pub kept : (ends : Bool) (m next : Machine) (j l : J) (r : Result (Unit {0}) KeepError) → KeepsOrIsRefused Answers ends start m j next l r → Keeps Answers start m j next l
+  kept ends m next j l (Ok done) keeps = keeps
+  kept ends m next j l (Err (Ended cause)) is = unkept_move is.2.1 cause is.2.2
+  kept ends m next j l (Err NoMemory) keeps = keeps
+
+  pub stopped : (ends : Bool) (m next : Machine) (j l : J) (cause : Cause) → KeepsOrIsRefused Answers ends start m j next l (Err (Ended cause)) → HasStopped Answers next l
+  stopped ends m next j l cause is = (cause, is.2.0, is.2.2)
 
 -- the catalog stays
 pub moved_catalog : (m next : Machine) (granules : List Granule) → Moves m granules next → catalog_of next.db ≡ catalog_of m.db

@@ -1,14 +1,30 @@
 -- A move is kept and made, or the journal refuses it, and the group that needs it ends.
-use Rattle.std.proofs.Common.{◌≡◌, ◌≢◌, ℕ, ap, sym, subst, ◌∙◌}
+use Rattle.std.proofs.Common.{◌≡◌, ◌≢◌, ◌⊎◌, ℕ, ap, sym, subst, ◌∙◌}
 use Rattle.std.specs.Prelude.{Result, Err}
+use Rattle.boxcar.specs.Table.{Where}
+use Rattle.bf_image.specs.declared.migration.Migration.{Migration}
+use Rattle.bf_live.specs.Live.{NamedRows}
+use Rattle.bf_base.specs.declared.granule.Granule.{Granule}
+use Rattle.bf_store.specs.Puts.{AreImages}
+use Rattle.bf_store.specs.Stores.{migration_of}
 use Rattle.bf_tree.specs.declared.reply.Cause.{Cause}
 use Rattle.bf_machine.specs.declared.stand.MoveError.{MoveError}
 use Rattle.bf_machine.specs.declared.stand.MoveError.TheVariants.{Ended, Memory as NoMemory, Old}
-use Rattle.bf_machine.specs.interleaving.Journals.{Keeps}
+use Rattle.bf_machine.specs.interleaving.Journals.{IsOneRecord, Keeps}
 use Rattle.bf_machine.specs.interleaving.Machines.{Machine}
 use Rattle.bf_serve.proofs.threads.Moving.{moved, not_moved, unkept}
 use Rattle.bf_serve.proofs.sections.move_for.Goals.{in-Ok, in-Err-Old, in-Err-Ended, in-Err-Memory}
 use Rattle.bf_serve.proofs.sections.move_for.Goals as goal
+
+-- work is one record of moves
+pub moved-requires-clause-granules : goal.moved-requires-clause-granules
+moved-requires-clause-granules g c =
+    let by = c.granules.ensures in
+    subst (λ (p : Where Migration). IsOneRecord (Some (migration_of p.value [])) c.granules.result.now) (sym c.pass.ensures)
+    (record { of_it = by.of_it; some = by.some; few = by.few; unit = by.of_one_unit.0; of_one_unit = by.of_one_unit.1; in_order = by.in_order })
+
+pub moved-requires-clause-images : goal.moved-requires-clause-images
+moved-requires-clause-images g c = ?
 
 pub end_needing-requires-clause-logged : goal.end_needing-requires-clause-logged
 end_needing-requires-clause-logged g c =
@@ -34,10 +50,19 @@ returns-clause-keeps g c =
     let k = c.moved.new.journal in
     let Goal : Machine → Type 0 = λ next. Keeps Answers start m j next k in
     elim c.match-moved.branch as (λ _. Goal c.match-moved.machine) [
-      | in-Ok w ↦ subst Goal (sym w.machine-is) (moved Answers start m c.moved.new.self j k c.args.granules.now w.in-Ok.ensures.moves (w.in-Ok.ensures.beside (λ cause same. cc)))
+      | in-Ok w ↦ subst Goal (sym w.machine-is) (moved Answers start m c.moved.new.self j k c.granules.result.now w.in-Ok.ensures.moves (w.in-Ok.ensures.beside (λ cause same. cc)))
       | in-Err-Old w ↦ subst Goal (sym w.machine-is) (not_moved Answers start m c.moved.new.self j k w.in-Err-Old.ensures.err (w.in-Err-Old.ensures.beside (old_is_no_cause w.in-Err-Old.field-0 _ w.in-Err-Old.field-0-is)))
       | in-Err-Ended w ↦
           let ended = c.moved.ensures.ended w.in-Err-Ended.cause (w.in-Err-Ended.is ∙ ap Err w.in-Err-Ended.field-0-is) in
           subst Goal (sym w.machine-is) (unkept Answers start m c.moved.new.self w.end_needing.new.machine j k w.in-Err-Ended.cause w.in-Err-Ended.ensures.err ended.2 w.end_needing.ensures)
       | in-Err-Memory w ↦ subst Goal (sym w.machine-is) (not_moved Answers start m c.moved.new.self j k w.in-Err-Memory.ensures.err (w.in-Err-Memory.ensures.beside (memory_is_no_cause w.in-Err-Memory.field-0 w.in-Err-Memory.field-0-is)))
     ]
+
+pub returns-clause-moves : goal.returns-clause-moves
+returns-clause-moves g c = ?
+
+pub returns-clause-of_it : goal.returns-clause-of_it
+returns-clause-of_it g c = ?
+
+pub returns-clause-refused : goal.returns-clause-refused
+returns-clause-refused g c = ?
