@@ -27,7 +27,7 @@ def run(program, log, script, most=None):
         resource.setrlimit(resource.RLIMIT_FSIZE, (most, most))
 
     done = subprocess.run(
-        [program, "run", log],
+        [program, "run", log, "--workers", "0"],
         input=script.encode(),
         capture_output=True,
         check=False,

@@ -34,7 +34,8 @@ def floor(path, count, size):
 
 def timed(program, log, script):
     start = time.monotonic()
-    done = subprocess.run([program, "run", log], input=script, capture_output=True, check=True)
+    words = [program, "run", log, "--workers", "0"]
+    done = subprocess.run(words, input=script, capture_output=True, check=True)
     return time.monotonic() - start, done.stdout
 
 

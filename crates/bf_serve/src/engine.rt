@@ -111,15 +111,15 @@ pub(crate) struct MovedWork<N: Beginning<J>, J: Journal> {
     work: Snapshot<Work>,
     opened: PhantomData<N>,
     journal: PhantomData<J>,
-    ghost moved: { HasMoved J.Answers N.opening N.begins work.value.pass work.value.granules },
+    ghost moved: { ∥ HasMoved J.Answers N.opening N.begins work.value.pass work.value.granules ∥₁ },
 }
 
 /// What a session is to do next.
 pub(crate) enum Due<N: Opened> {
     /// Its next group has begun: its next turn.
     Again,
-    /// Its group has ended.
-    Ending,
+    /// Its group has ended, by this COMMIT or ROLLBACK if by one.
+    Ending(Option<u32>),
     /// Its group has ended, and changed the catalog: workers may have something to move.
     EndingSchema,
     /// It waits until more has happened than this count tells.
@@ -347,6 +347,18 @@ impl<N: Beginning<J>, J: Journal> Engine<N, J> {
         commit(*alloc, rt, registry, machine, journal, catalog, session)
     }
 
+    /// The COMMIT or ROLLBACK by which a session's group is to end, if by one.
+    fn end_of(&self, session: u32) -> Option<u32>
+        requires place { IsPlace N.script session }
+    {
+        // Its contract says that the script is the one that the type names.
+        let _ = self.machine.script();
+        if self.machine.is_answered(session) {
+            return None;
+        }
+        self.machine.place(session)
+    }
+
     /// Where a session stands whose next statement is to be made ready, and whether anything of the last migration is
     /// left to move. `None` where no statement is next, and where there is no pass of the catalog.
     fn position(&self, session: u32) -> Option<(Position<N>, bool)>
@@ -397,17 +409,19 @@ impl<N: Beginning<J>, J: Journal> Engine<N, J> {
                 Ok(Due::Again)
             }
             Stand::Commit => {
+                let end = self.end_of(session);
                 if self.commit(rt, registry, session)? {
                     self.happened_to_all();
                     return Ok(Due::EndingSchema);
                 }
                 self.happened();
-                Ok(Due::Ending)
+                Ok(Due::Ending(end))
             }
             Stand::Abort => {
+                let end = self.end_of(session);
                 self.abort(session);
                 self.happened();
-                Ok(Due::Ending)
+                Ok(Due::Ending(end))
             }
             Stand::Statement(_) => match self.position(session) {
                 Some((at, is_left)) => Ok(Due::Statement(at, is_left)),

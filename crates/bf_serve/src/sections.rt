@@ -308,11 +308,11 @@ pub(crate) fn commit<N: Opened, J: Journal, R: Wait>(
 {
     let number = machine.catalog().number();
     machine.commit(rt, registry, journal, session)?;
-    let has_changed = machine.catalog().number() != number;
-    if has_changed {
+    if machine.catalog().number() != number {
         *catalog = present_catalog(alloc, rt, registry, machine);
+        return Ok(true);
     }
-    Ok(has_changed)
+    Ok(false)
 }
 
 /// Does work by the images of its granules, and tells whether they have moved. Where the journal does not keep the move, the open

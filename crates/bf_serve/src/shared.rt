@@ -143,9 +143,12 @@ impl<'r, 'g, N: Beginning<J>, J: Journal, R: Wait, G: Gate> Shared<'r, 'g, N, J,
             .next(self.rt, self.registry, session)?;
         match due {
             Due::Again => Ok(Step::Again),
-            Due::Ending => {
+            Due::Ending(end) => {
                 self.wake();
-                Ok(Step::Again)
+                match end {
+                    Some(statement) => Ok(Step::Replied(statement)),
+                    None => Ok(Step::Again),
+                }
             }
             Due::EndingSchema => {
                 self.wake_all();

@@ -1,9 +1,9 @@
 //! What random scripts are to try, and how often at least.
 
-use crate::asked::Moment;
-use crate::asked::Moment::{Later, RightBehind};
-use crate::changes::Kind;
-use crate::forms::{Reach, Verb};
+use random_scripts::asked::Moment;
+use random_scripts::asked::Moment::{Later, RightBehind};
+use random_scripts::changes::Kind;
+use random_scripts::forms::{Reach, Verb};
 
 /// How replies begin, and how often at least each occurs.
 pub const REPLIES: &[(&str, u64)] = &[

@@ -1,14 +1,14 @@
 //! Random scripts, each told by the top call and by the one-thread database.
 
-use crate::asked::Asked;
 use crate::cases::Case;
 use crate::counts::Counts;
-use crate::replay::{Told, tell};
-use crate::writer::Writer;
+use crate::sequence::{Told, tell};
 use bf_disk::MemoryShelf;
 use bf_io::{CalmSource, MemorySink};
 use bf_run::{OpenGate, Status, bullfrog};
 use bf_tree::{Reply, Transcripts};
+use random_scripts::Writer;
+use random_scripts::asked::Asked;
 use std::alloc::Global;
 use std::sync::Wait;
 use std::test::Fail;

@@ -1,11 +1,11 @@
 //! How often each reply, each case and each change of the schema comes up.
 
-use crate::asked::{Asked, Flip, Moment};
 use crate::cases::{CASES, Case, REPLIES};
-use crate::changes::{CHANGES, Kind};
-use crate::forms::{Reach, Verb};
 use bf_base::Memory;
 use bf_tree::{Refusal, Reply};
+use random_scripts::asked::{Asked, Flip, Moment};
+use random_scripts::changes::{CHANGES, Kind};
+use random_scripts::forms::{Reach, Verb};
 use std::alloc::Global;
 
 /// Counts over scripts.

@@ -6,5 +6,5 @@ invariant_of-self g c =
     let i = c.self.invariant in
     let m = c.self.inside.machine in
     let goes = goes_moving g.J.Journal.Answers g.N.Opened.opening g.N.Beginning.begins g.N.Opened.registry m c.self.inside.journal c.self.inside.catalog i.0 i.3
-    c.move_for-moved.new.machine c.move_for-moved.new.journal c.move_for-moved.ensures.keeps c.move_for-moved.ensures.same in
+    c.move_for-has_moved.new.machine c.move_for-has_moved.new.journal c.move_for-has_moved.ensures.keeps c.move_for-has_moved.ensures.same in
     (goes.0, i.1, i.2, goes.1)

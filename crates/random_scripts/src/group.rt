@@ -5,7 +5,7 @@ ghost use Rattle.std.specs.List.{AllByRecursion, list_all};
 ghost use Rattle.bf_sql.specs.Groups.{commits, ends_block, groups_of, last_is_commit};
 ghost use Rattle.bf_tree.specs.Limits.{IsNarrowIfMigrate, is_narrow_statement};
 ghost use Rattle.bf_eager.specs.Eager.{IsWholeGroup};
-ghost use Rattle.random_tests.specs.Blocks.{IsInBlock};
+ghost use Rattle.random_scripts.specs.Blocks.{IsInBlock};
 
 use bf_eager::is_narrow;
 use bf_tree::Statement;

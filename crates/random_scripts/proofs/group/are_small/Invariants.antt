@@ -2,7 +2,7 @@
 use Rattle.std.proofs.Common.{◌≡◌, true, drop}
 use Rattle.std.specs.List.{AllByRecursion, list_all}
 use Rattle.bf_tree.specs.Limits.{IsNarrowIfMigrate, is_narrow_statement}
-use Rattle.random_tests.proofs.group.are_small.Given as goal
+use Rattle.random_scripts.proofs.group.are_small.Given as goal
 
 abbrev pub invariant-loop-statement : goal.invariant-loop-statement
 invariant-loop-statement l =

@@ -4,6 +4,7 @@ use crate::forms::choices;
 use crate::tables::Table;
 use bf_base::Memory;
 use std::alloc::Global;
+use std::mem::replace;
 
 /// The most parts that a form has.
 const MOST_PARTS: u32 = 1000;
@@ -23,6 +24,11 @@ impl Pen {
             seed,
             text: Vec::new(alloc),
         }
+    }
+
+    /// The text so far, behind which another one begins.
+    pub fn take_text(&mut self) -> Vec<u8> {
+        replace(&mut self.text, Vec::new(self.alloc))
     }
 
     /// The next number below a limit, of a linear congruential generator.

@@ -12,6 +12,9 @@ use std::alloc::Global;
 /// How many INSERTs fill an old table, of which some may be refused.
 const INSERTS: u32 = 11;
 
+/// By which numbers the statements of sessions that run at the same time are drawn.
+const BESIDE: [usize; 10] = [1, 2, 2, 3, 5, 5, 5, 5, 5, 5];
+
 /// A script as far as it is written.
 #[derive(Drop)]
 pub struct Writer {
@@ -160,16 +163,24 @@ impl Writer {
         self.put_other(stray)
     }
 
+    /// Adds the statement of a number: the beginning or the end of a block, what is refused, or what is asked of a
+    /// table.
+    fn put_statement(&mut self, number: usize) -> Result<(), Memory> {
+        match (number, self.is_in_block) {
+            (1 | 2, false) => self.put_begin(),
+            (1 | 2, true) => self.put_end(),
+            (3, _) => self.put_stray(),
+            (4, _) => self.put_other("F"),
+            _ => self.put_on_table(),
+        }
+    }
+
     /// Adds statements, here and there in a block, or in a new session.
     fn put_statements(&mut self, count: usize) -> Result<(), Memory> {
         for _ in 0..count {
-            match (self.pen.draw(20), self.is_in_block) {
-                (0, _) => self.put_session()?,
-                (1 | 2, false) => self.put_begin()?,
-                (1 | 2, true) => self.put_end()?,
-                (3, _) => self.put_stray()?,
-                (4, _) => self.put_other("F")?,
-                _ => self.put_on_table()?,
+            match self.pen.draw(20) {
+                0 => self.put_session()?,
+                number => self.put_statement(number)?,
             }
         }
         Ok(())
@@ -285,6 +296,61 @@ impl Writer {
             self.put_statements(9)?;
         }
         self.put_session()?;
+        self.put_whole()
+    }
+
+    /// The next number below a limit, and 0 below none.
+    pub fn draw(&mut self, limit: usize) -> usize {
+        self.pen.draw(limit)
+    }
+
+    /// The text since the last call, which is a script of its own.
+    pub fn next_text(&mut self) -> Vec<u8> {
+        self.front = 0;
+        self.is_in_block = false;
+        self.pen.take_text()
+    }
+
+    /// Adds a phase in which a session makes the old tables, and now and then a MIGRATE of one.
+    pub fn put_beginning(&mut self) -> Result<(), Memory> {
+        self.pen.put_text("phase; session;\n")?;
+        self.put_all_old()?;
+        if self.pen.draw(2) == 0 {
+            return self.put_migrate();
+        }
+        Ok(())
+    }
+
+    /// Adds a session of at most 7 statements, of which many stand in blocks.
+    fn put_one_beside(&mut self) -> Result<(), Memory> {
+        self.is_in_block = false;
+        self.pen.put_text("session;\n")?;
+        for _ in 0..self.pen.draw(6).saturating_add(2) {
+            let place = self.pen.draw(BESIDE.len());
+            self.put_statement(BESIDE.get(place).copied().unwrap_or(0))?;
+        }
+        Ok(())
+    }
+
+    /// Adds one to three phases of two to six sessions, some behind a phase with a MIGRATE.
+    pub fn put_phases(&mut self) -> Result<(), Memory> {
+        for _ in 0..self.pen.draw(3).saturating_add(1) {
+            if self.pen.draw(2) == 0 {
+                self.is_in_block = false;
+                self.pen.put_text("phase; session;\n")?;
+                self.put_migrate()?;
+            }
+            self.pen.put_text("phase;\n")?;
+            for _ in 0..self.pen.draw(5).saturating_add(2) {
+                self.put_one_beside()?;
+            }
+        }
+        Ok(())
+    }
+
+    /// Adds a phase with a SELECT of each table.
+    pub fn put_ending(&mut self) -> Result<(), Memory> {
+        self.pen.put_text("phase; session;\n")?;
         self.put_whole()
     }
 }

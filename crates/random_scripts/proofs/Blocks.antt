@@ -4,7 +4,7 @@ use Rattle.std.proofs.lemmas.Bool.{false≢true}
 use Rattle.bf_tree.specs.declared.statement.Statement.{Statement}
 use Rattle.bf_tree.specs.declared.statement.Statement.TheVariants.{Begin, Commit, Rollback}
 use Rattle.bf_sql.specs.Groups.{groups_from, groups_of, ends_block, last_is_commit}
-use Rattle.random_tests.specs.Blocks.{IsInBlock}
+use Rattle.random_scripts.specs.Blocks.{IsInBlock}
 
 pub nothing : IsInBlock []
 nothing = record { group = λ n began. ap (λ (m : ℕ). (began, m) ∷ []) (omega arith) }

@@ -1,13 +1,11 @@
-//! What the one-thread database tells of a script.
+//! What the one-thread database tells of a script whose sessions run one behind the other.
 
-use crate::group::{ends_block, whole_commits};
 use bf_base::Sequence;
-use bf_eager::Eager;
 use bf_parse::script;
 use bf_text::report;
-use bf_tree::{
-    Entry, History, Outcome, Refusal, Reply, Script, Session, Statement, Sweep, Transcripts,
-};
+use bf_tree::{Entry, History, Refusal, Reply, Script, Session, Statement, Transcripts};
+use random_scripts::group::ends_block;
+use random_scripts::{Replay, front};
 use std::alloc::Global;
 use std::test::Fail;
 
@@ -22,14 +20,11 @@ pub struct Told {
     pub migrations: u32,
 }
 
-/// A replay of the sessions of a script, one behind the other.
+/// The sessions of a script, one behind the other.
 #[derive(Drop)]
-struct Replay {
+struct Sessions {
     alloc: Global,
-    eager: Eager,
-    /// How many groups have committed, and how many migrations were taken.
-    commits: u64,
-    migrations: u32,
+    replay: Replay,
     entries: Vec<Entry>,
     /// Which session runs, the replies to its statements so far, and the statements of its group that has begun.
     session: u32,
@@ -37,13 +32,11 @@ struct Replay {
     group: Vec<Statement>,
 }
 
-impl Replay {
-    fn new(alloc: Global) -> Replay {
-        Replay {
+impl Sessions {
+    fn new(alloc: Global) -> Sessions {
+        Sessions {
             alloc,
-            eager: Eager::new(alloc),
-            commits: 0,
-            migrations: 0,
+            replay: Replay::new(alloc),
             entries: Vec::new(alloc),
             session: 0,
             replies: Vec::new(alloc),
@@ -51,37 +44,21 @@ impl Replay {
         }
     }
 
-    fn outcome(&mut self, committed: bool) -> Outcome {
-        if !committed {
-            return Outcome::RolledBack;
-        }
-        self.commits = self.commits.saturating_add(1);
-        Outcome::Committed(self.commits)
-    }
-
-    /// Adds the entry of a group, whose replies stand behind so many others.
-    fn put_entry(&mut self, before: usize, committed: bool) -> Result<(), Fail> {
+    /// Runs the group that has begun.
+    fn run_group(&mut self) -> Result<(), Fail> {
+        let told = self.replay.run_group(self.group.as_slice())?;
+        let (mut replies, outcome) = told.ok_or("no whole group")?;
+        let before = self.replies.len();
+        self.replies.append(&mut replies)?;
+        self.group.clear();
         let entry = Entry {
             session: self.session,
             first: u32::try_from(before.saturating_add(1))?,
             last: u32::try_from(self.replies.len())?,
-            outcome: self.outcome(committed),
+            outcome,
         };
         self.entries.push(entry)?;
         Ok(())
-    }
-
-    /// Runs the group that has begun.
-    fn run_group(&mut self) -> Result<(), Fail> {
-        let committed = whole_commits(self.group.as_slice()).ok_or("no whole group")?;
-        let mut replies = self.eager.run_entry(self.group.as_slice(), committed)?;
-        if let [Reply::Migrated(_)] = replies.as_slice() {
-            self.migrations = self.migrations.saturating_add(1);
-        }
-        let before = self.replies.len();
-        self.replies.append(&mut replies)?;
-        self.group.clear();
-        self.put_entry(before, committed)
     }
 
     /// Goes on with a statement of the session.
@@ -125,38 +102,16 @@ impl Replay {
             sessions: Sequence::of(sessions),
         })
     }
-
-    /// How far the last migration has come, where it has come to its end and no row was there to move.
-    fn sweep(&self) -> Sweep {
-        match self.migrations {
-            0 => Sweep::Never,
-            migration => Sweep::Complete {
-                migration,
-                moved: 0,
-            },
-        }
-    }
-}
-
-/// The report up to the last words, which say how far the last migration has come.
-fn front(mut report: Vec<u8>) -> Vec<u8> {
-    for end in [b"none\n".as_slice(), b"complete 0\n".as_slice()] {
-        let length = report.as_slice().strip_suffix(end).map(|front| front.len());
-        if let Some(length) = length {
-            report.truncate(length);
-        }
-    }
-    report
 }
 
 /// What the one-thread database tells of a script, which makes each new table whole at its MIGRATE.
 pub fn tell(alloc: Global, text: &[u8]) -> Result<Told, Fail> {
-    let mut replay = Replay::new(alloc);
-    let transcripts = replay.run(&script(alloc, text)?)?;
-    let sweep = replay.sweep();
-    let migrations = replay.migrations;
+    let mut sessions = Sessions::new(alloc);
+    let transcripts = sessions.run(&script(alloc, text)?)?;
+    let sweep = sessions.replay.sweep();
+    let migrations = sessions.replay.migrations();
     let history = History {
-        entries: Sequence::of(replay.entries),
+        entries: Sequence::of(sessions.entries),
     };
     let report = report(alloc, &transcripts, &history, None, &sweep)?;
     Ok(Told {
