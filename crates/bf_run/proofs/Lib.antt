@@ -3,6 +3,7 @@ pub mod Caused
 pub mod Committed
 pub mod Created
 pub mod Ending
+pub mod Finished
 pub mod Kept
 pub mod Migrates
 pub mod Moved

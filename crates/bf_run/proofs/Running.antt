@@ -1,5 +1,5 @@
 -- What becomes of a file that a shelf gives, over which a script is run, and that is put back.
-use Rattle.std.proofs.Common.{◌≡◌, ◌≢◌, ◌⊎◌, ℕ, ◌≤◌, List, Option, None, Some, inl, inr, refl, sym, subst, ◌∙◌, arith}
+use Rattle.std.proofs.Common.{◌≡◌, ◌≢◌, ◌⊎◌, ℕ, ◌≤◌, Bool, List, Option, None, Some, inl, inr, refl, sym, subst, ◌∙◌, arith}
 use Rattle.bf_io.specs.Causes.{Rose}
 use Rattle.bf_io.specs.Whole.{IfTold}
 use Rattle.bf_disk.specs.Shelves.{ByPath, GivesHeld, PutsWhereTold}
@@ -20,6 +20,7 @@ use Rattle.bf_run.specs.declared.status.Status.TheVariants.{Done, Usage, Script 
 use Rattle.bf_run.specs.Causes.{AreCaused, AreOfHeld, CausesEnds}
 use Rattle.bf_run.specs.Creating.{CountsNone, CountsOne, Shelving, WhereHeld}
 use Rattle.bf_run.specs.Keeping.{GivesSweep, IsGivenBy, IsGivenHeld, KeepsFile, KeepsHeld, KeepsLog}
+use Rattle.bf_run.specs.Options.{Finishes, IsFinished, IsOfHeld}
 use Rattle.bf_run.specs.Outcome.{ComesOfLog, RunClaim, HoldsAsked, IsRunTold}
 use Rattle.bf_run.specs.Running.{IsLogOf, IsRefusedLog, KeepsOthers, Opens, OpensTo}
 use Rattle.bf_run.specs.Top.{HoldsOver, IsOpenErrorTold, IsOpened, IsRunOverDisk, IsServed, IsTextOfRun}
@@ -60,12 +61,12 @@ module _ {V : Type 0} (seen : V → Option (List ℕ)) (may_leave : V → List �
   pub served : (Served : RunClaim) (before after : ℕ) (status : Status) (text : List ℕ) → IsServed options Served script before after status text
       → before ≡ fault_count disk → after ≡ fault_count now
       → ((status : Status) (start : Database) (history : List Entry) (ended : List EndedGroup) (last : LazyState) → Served status script start history ended last
-      → HoldsOver seen may_leave moment left_since fault_count disk now status script start history ended last)
+      → HoldsOver seen may_leave moment left_since fault_count options.finish disk now status script start history ended last)
       → IsRunOverDisk seen may_leave moment left_since fault_count options script disk now status text
   served Served before after status text is first last so = by status is
     where
       told : (status : Status) → IsRunTold options (Served status script) script text
-          → IsRunTold options (HoldsOver seen may_leave moment left_since fault_count disk now status script) script text
+          → IsRunTold options (HoldsOver seen may_leave moment left_since fault_count options.finish disk now status script) script text
       told status run = record {
         start = run.start;
         transcripts = run.transcripts;
@@ -140,6 +141,15 @@ module _ {V : Type 0} (shelf : Shelving V) (path : List ℕ) (mid : Option (ByPa
   gives status last given_by = where_held shelf.seen shelf.may_leave path disk now (λ old new. IsGivenHeld shelf status last new)
       shelf.held mid shelf.held_after given away back (λ was held. (now, refl, given_by))
 
+  -- what is left of the last migration
+  finishes : (finish : Bool) (status : Status) (last : LazyState) → IsFinished finish status (shelf.seen now) last → Finishes shelf path finish status last
+  finishes finish status last is = (
+    shelf.seen now,
+    is,
+    where_held shelf.seen shelf.may_leave path disk now (λ old new. IsOfHeld shelf (shelf.seen now) new)
+        shelf.held mid shelf.held_after given away back (λ was held. (now, refl, refl)),
+  )
+
   -- a log that was read at most, and a run over it that was broken off
   reads : IsReadAtMost shelf.seen shelf.may_leave shelf.moment shelf.left_since disk now → ReadsLog shelf path
   reads read = where_held shelf.seen shelf.may_leave path disk now (IsReadLog shelf)
@@ -159,7 +169,7 @@ module _ {V : Type 0} (shelf : Shelving V) (path : List ℕ) (mid : Option (ByPa
 
   module _ (options : Options) (script : Script) (none : shelf.disk_faults now ≤ shelf.disk_faults disk → CountsNone shelf) (one : Rose (shelf.disk_faults disk) (shelf.disk_faults now) → CountsOne shelf) where
     over : (status : Status) (text : List ℕ)
-        → IsRunTold options (HoldsOver shelf.seen shelf.may_leave shelf.moment shelf.left_since shelf.disk_faults disk now status script) script text
+        → IsRunTold options (HoldsOver shelf.seen shelf.may_leave shelf.moment shelf.left_since shelf.disk_faults options.finish disk now status script) script text
         → IsRunTold options (HoldsAsked (Some (running path options)) shelf status script) script text
     over status text told = record {
       start = told.start;
@@ -174,6 +184,7 @@ module _ {V : Type 0} (shelf : Shelving V) (path : List ℕ) (mid : Option (ByPa
         keeps_log status script told.start told.history told.ended told.holds.1,
         caused status script told.start told.history told.ended told.holds.2,
         gives status told.is_run.last told.holds.3,
+        finishes options.finish status told.is_run.last told.holds.4,
       );
       report_written = told.report_written;
     }

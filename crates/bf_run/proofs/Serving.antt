@@ -1,7 +1,8 @@
 -- What is told of a run that came of a new machine over a store, beside a log.
 use Rattle.std.proofs.Common.{◌≡◌, ℕ, ◌<◌, ◌≤◌, Bool, true, List, refl, sym, ap, subst, ◌∙◌, inl, inr}
-use Rattle.std.specs.Prelude.{Result, Ok, Err, IfOk, OnErr}
+use Rattle.std.specs.Prelude.{Result, Ok, Err, IfOk, OnErr, OnOk}
 use Rattle.std.proofs.lemmas.Bool.{cases_lt}
+use Rattle.std.proofs.lemmas.Result.{IfOk-at_ok}
 use Rattle.bf_disk.specs.declared.disk.Disk.{Ghosts}
 use Rattle.bf_journal.specs.Leaving.{LeavesAlone}
 use Rattle.bf_journal.specs.States.{IsReady, StandsOn}
@@ -23,6 +24,7 @@ use Rattle.bf_tree.specs.declared.script.Script.{Script}
 use Rattle.bf_words.specs.Words.{Options}
 use Rattle.bf_run.specs.Answers.{AreSizesOf, AreToldTheirCauses, CausesMatchLog, HasAnswered, is_ready}
 use Rattle.bf_serve.specs.Come.{LeavesParts}
+use Rattle.bf_serve.specs.Finishing.{HasFinished}
 use Rattle.bf_run.specs.Crashing.{KeepsOnLog, Recovers, ended_on_log}
 use Rattle.bf_run.specs.Deaths.{IsRunWithDeaths}
 use Rattle.bf_run.specs.Keeping.{IsGivenBy, KeepsOn}
@@ -33,6 +35,7 @@ use Rattle.bf_run.specs.declared.log_journal.LogJournal.{LogJournal}
 use Rattle.bf_run.specs.declared.status.Status.{Status}
 use Rattle.bf_run.specs.declared.status.Status.TheVariants.{Done, DiskFault}
 use Rattle.bf_run.proofs.Caused.{caused}
+use Rattle.bf_run.proofs.Finished.{finished}
 use Rattle.bf_run.proofs.Kept.{given_at_done, given_at_fault, keeps_at_done, keeps_at_fault, ready_if}
 use Rattle.bf_run.proofs.Untold.{run_with_last}
 
@@ -44,6 +47,9 @@ if_ok_by (Err error) so p q r = tt
 pub on_err : {P : Type 0} {A E : Type 0} (r : Result A E) → P → OnErr r P
 on_err (Ok x) so = tt
 on_err (Err error) so = so
+
+pub on_ok : {P : Type 0} {A E : Type 0} {r : Result A E} {a : A} → r ≡ Ok a → OnOk r P → P
+on_ok {P = P} is so = IfOk-at_ok (λ _. P) is so
 
 -- the report of what a machine leaves is that of the machine
 pub report_of : (audit : Bool) (now : Machine) (parts : Parts) → LeavesParts now parts
@@ -64,12 +70,13 @@ module _ {D : Type 0} {g : Ghosts D} (options : Options) (store : Store) (script
       (replied : AreToldTheirCauses now.script (transcripts_of now) (ended_on_log keeps))
       (causes : CausesMatchLog k.log (ended_on_log keeps))
       (sizes : AreSizesOf (view_of store.lazy) now.script now.history (ended_on_log keeps))
-      (recovers : Recovers j.log (view_of store.lazy) (ended_on_log keeps) now k.log) where
+      (recovers : Recovers j.log (view_of store.lazy) (ended_on_log keeps) now k.log)
+      (finishes : options.finish ≡ true → HasFinished {J = LogJournal D g} (λ lazy next old new answer. HasAnswered lazy next old.log new.log answer) now k) where
     told : (status : Status) → (status ≡ Done → IsReady k.log)
         → KeepsOn j.log k.log.disk status now.script (view_of store.lazy) now.history (ended_on_log keeps)
         → IsGivenBy g.seen g.may_leave status k.log.disk now.lazy
         → (text : List ℕ) → text ≡ report_text (transcripts_of now) now.history (audit_if options.audit (view_of now.lazy)) (sweep_of now.lazy.last)
-        → IsRunTold options (ServedOn (view_of store.lazy) j.log k.log.disk status script) script text
+        → IsRunTold options (ServedOn options.finish (view_of store.lazy) j.log k.log.disk status script) script text
     told status ready keeps_on given text written =
         let own = own_script in
         let ended = ended_on_log keeps in
@@ -89,17 +96,18 @@ module _ {D : Type 0} {g : Ghosts D} (options : Options) (store : Store) (script
             subst (λ (s : Script). KeepsOn j.log k.log.disk status s (view_of store.lazy) now.history ended) own keeps_on,
             caused k.log (view_of store.lazy) script now.history ended causes sized status ready,
             given,
+            λ asked done. finished now k (ready done) (finishes asked),
           );
           report_written = written ∙ ap (λ (db : Database). report_text (transcripts_of now) now.history (audit_if options.audit db) (sweep_of now.lazy.last)) replays;
         }
 
     told_at_fault : (standing_of k.log ≡ Spent → ⊥) → (text : List ℕ) → text ≡ report_text (transcripts_of now) now.history (audit_if options.audit (view_of now.lazy)) (sweep_of now.lazy.last)
-        → IsRunTold options (ServedOn (view_of store.lazy) j.log k.log.disk DiskFault script) script text
+        → IsRunTold options (ServedOn options.finish (view_of store.lazy) j.log k.log.disk DiskFault script) script text
     told_at_fault taken text written =
         told DiskFault (λ is. absurd cc) (keeps_at_fault (view_of store.lazy) now j.log k.log kept (ended_on_log keeps) recovers taken) (given_at_fault now.lazy k.log recovers.stands) text written
 
     told_at_done : IsReady k.log → (text : List ℕ) → text ≡ report_text (transcripts_of now) now.history (audit_if options.audit (view_of now.lazy)) (sweep_of now.lazy.last)
-        → IsRunTold options (ServedOn (view_of store.lazy) j.log k.log.disk Done script) script text
+        → IsRunTold options (ServedOn options.finish (view_of store.lazy) j.log k.log.disk Done script) script text
     told_at_done ready text written =
         told Done (λ _. ready) (keeps_at_done (view_of store.lazy) now j.log k.log kept (ended_on_log keeps) recovers ready) (given_at_done now.lazy k.log recovers.stands ready) text written
 
@@ -108,10 +116,10 @@ module _ {D : Type 0} {g : Ghosts D} (options : Options) (store : Store) (script
         → (status : Status) (text : List ℕ) → text ≡ report_text (transcripts_of now) now.history (audit_if options.audit (view_of now.lazy)) (sweep_of now.lazy.last)
         → (before < g.fault_count (disk_of k.log) → status ≡ DiskFault)
         → (g.fault_count (disk_of k.log) ≤ before → (status ≡ Done) × (is_ready (standing_of k.log) ≡ true))
-        → IsServed options (ServedOn (view_of store.lazy) j.log (disk_of k.log)) script (g.fault_count (disk_of j.log)) (g.fault_count (disk_of k.log)) status text
+        → IsServed options (ServedOn options.finish (view_of store.lazy) j.log (disk_of k.log)) script (g.fault_count (disk_of j.log)) (g.fault_count (disk_of k.log)) status text
     served taken before same status text written fault done =
         let after = g.fault_count (disk_of k.log) in
-        let Goal : Status → Type 0 = λ s. IsServed options (ServedOn (view_of store.lazy) j.log (disk_of k.log)) script (g.fault_count (disk_of j.log)) after s text in
+        let Goal : Status → Type 0 = λ s. IsServed options (ServedOn options.finish (view_of store.lazy) j.log (disk_of k.log)) script (g.fault_count (disk_of j.log)) after s text in
         elim (cases_lt before after) as (λ _. Goal status) [
           | inl rose ↦ subst Goal (sym (fault rose)) (told_at_fault taken text written, subst (λ n. n < after) same rose)
           | inr stays ↦

@@ -20,7 +20,7 @@ use Rattle.bf_run.specs.Causes.{CausesEnds}
 use Rattle.bf_run.specs.Creating.{Shelving, Makes, Refuses, CountsNone, CountsOne, Spares}
 use Rattle.bf_run.specs.Deaths.{IsRunWithDeaths}
 use Rattle.bf_run.specs.Keeping.{GivesSweep, KeepsLog}
-use Rattle.bf_run.specs.Options.{audit_if}
+use Rattle.bf_run.specs.Options.{Finishes, audit_if}
 use Rattle.bf_run.specs.Running.{KeepsOthers, Opens, RefusesLog}
 use Rattle.bf_run.specs.Untold.{ReadsLog, RunsOut}
 use Rattle.bf_run.specs.Words.{IfCreating, IfRunning}
@@ -189,10 +189,12 @@ IsTextOf asks Holds Before bytes WriteFault text = ⊥
 IsTextOf asks Holds Before bytes Memory text = ⊥
 
 -- a run over the log that is asked for begins with a database that this opens to, a crash leaves a prefix of what it commits, the
--- log has ended groups by its causes alone, and the sweep is that of the state which its records give
+-- log has ended groups by its causes alone, the sweep is that of the state which its records give, and where that was asked for the
+-- last migration is finished
 abbrev pub HoldsAsked : {V : Type 0} → Option Asked → Shelving V → RunClaim
 HoldsAsked (Some (running path options)) shelf status script start history ended last =
     Opens shelf path start × KeepsLog shelf path status script start history ended × CausesEnds shelf path status script start history ended × GivesSweep shelf path status last
+    × Finishes shelf path options.finish status last
 HoldsAsked other shelf status script start history ended last = ⊥
 
 -- and before one the log that is asked for was read at most

@@ -1,5 +1,5 @@
 -- What the parts of the top call owe: the report of a run, and the script that a source is.
-use Rattle.std.specs.Prelude.{◌≡◌, ◌⊎◌, ℕ, ◌<◌, ◌≤◌, List, ◌++◌, codes, Option, None, Some, Result, Ok, Err, ⊤}
+use Rattle.std.specs.Prelude.{◌≡◌, ◌⊎◌, ℕ, ◌<◌, ◌≤◌, Bool, List, ◌++◌, codes, Option, None, Some, Result, Ok, Err, ⊤}
 use Rattle.std.specs.Global.{Vec}
 use Rattle.bf_disk.specs.declared.disk.Disk.{Ghosts}
 use Rattle.bf_disk.specs.Images.{OnlyRead}
@@ -26,6 +26,7 @@ use Rattle.bf_run.specs.declared.status.Status.TheVariants.{Done, DiskFault, Not
 use Rattle.bf_run.specs.Causes.{AreCaused}
 use Rattle.bf_run.specs.Keeping.{IsGivenBy, KeepsFile, KeepsOn}
 use Rattle.bf_run.specs.Outcome.{RunClaim, Stream, ComesOfInput, IsRunTold, IsTextOf, fault_of_disk, fault_text, not_a_log_text}
+use Rattle.bf_run.specs.Options.{IsFinished}
 use Rattle.bf_run.specs.Untold.{IsReadAtMost}
 use Rattle.bf_words.specs.Words.{Options, trying}
 
@@ -70,12 +71,12 @@ IsServed options Holds script before after Done text = IsRunTold options (Holds 
 IsServed options Holds script before after DiskFault text = IsRunTold options (Holds DiskFault script) script text × (before < after)
 IsServed options Holds script before after other text = ⊥
 
--- over the database that is seen of the state which a log keeps
-abbrev pub ServedOn : {D : Type 0} {g : Ghosts D} → Database → Log D g → D → RunClaim
-ServedOn {g = g} opening log disk status script start history ended last =
+-- over the database that is seen of the state which a log keeps, to be finished or not
+abbrev pub ServedOn : {D : Type 0} {g : Ghosts D} → Bool → Database → Log D g → D → RunClaim
+ServedOn {g = g} finish opening log disk status script start history ended last =
     (start ≡ opening) × KeepsOn log disk status script start history ended
     × AreCaused start script history (g.seen disk) (g.fault_count disk) status ended
-    × IsGivenBy g.seen g.may_leave status disk last
+    × IsGivenBy g.seen g.may_leave status disk last × IsFinished finish status (g.seen disk) last
 
 -- what is told of a log that could not be read
 abbrev pub IsOpenErrorTold : OpenError → Status → List ℕ → Type 0
@@ -89,16 +90,17 @@ module _ {V : Type 0} (seen : V → Option (List ℕ)) (may_leave : V → List �
   IsOpened disk start = IfTold (seen disk) (λ file. OpensTo file start)
 
   -- a run begins with what its file opens to, a crash leaves a prefix of what it commits, groups end by causes of its log,
-  -- and the sweep is that of the state which its records give
-  abbrev pub HoldsOver : V → V → RunClaim
-  HoldsOver old new status script start history ended last =
+  -- the sweep is that of the state which its records give, and where that was asked for the last migration is finished
+  abbrev pub HoldsOver : Bool → V → V → RunClaim
+  HoldsOver finish old new status script start history ended last =
       IsOpened old start × IfTold (seen new) (λ file. KeepsFile may_leave moment left_since old new status script start history ended)
       × AreCaused start script history (seen new) (fault_count new) status ended × IsGivenBy seen may_leave status new last
+      × IsFinished finish status (seen new) last
 
   abbrev pub IsRunOverDisk : Options → Script → V → V → Status → List ℕ → Type 0
-  IsRunOverDisk options script old new Done text = IsRunTold options (HoldsOver old new Done script) script text × (fault_count new ≤ fault_count old)
+  IsRunOverDisk options script old new Done text = IsRunTold options (HoldsOver options.finish old new Done script) script text × (fault_count new ≤ fault_count old)
   IsRunOverDisk options script old new DiskFault text =
-      (((text ≡ fault_of_disk) × IsReadAtMost seen may_leave moment left_since old new) ⊎ IsRunTold options (HoldsOver old new DiskFault script) script text)
+      (((text ≡ fault_of_disk) × IsReadAtMost seen may_leave moment left_since old new) ⊎ IsRunTold options (HoldsOver options.finish old new DiskFault script) script text)
       × Rose (fault_count old) (fault_count new)
   IsRunOverDisk options script old new (NotALog at) text =
       (text ≡ not_a_log_text at) × IfTold (seen old) (λ file. RefusedAt first_state StepsTo file at)

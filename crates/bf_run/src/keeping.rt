@@ -76,7 +76,7 @@ fn tell_run<D: Disk + Send, R: Threads + Wait + Sync, G: Gate + Sync>(
     requires ready { IsReady journal.log }
     requires alone { LeavesAlone first_state StepsTo store.lazy journal.log }
     ensures served { IfOk result.1 (λ a. IsServed (asked_options options)
-        (ServedOn (view_of store.lazy) journal.log (disk_of result.0.log)) script
+        (ServedOn options.finish (view_of store.lazy) journal.log (disk_of result.0.log)) script
         (D.fault_count (disk_of journal.log)) (D.fault_count (disk_of result.0.log))
         a.0 a.1.items) }
     ensures broken_off { OnErr result.1
@@ -160,7 +160,7 @@ fn serve_over<D: Disk + Send, R: Threads + Wait + Sync, G: Gate + Sync>(
     requires ready { IsReady log }
     requires alone { LeavesAlone first_state StepsTo store.lazy log }
     ensures served { IfOk result.1 (λ a. IsServed (asked_options options)
-        (ServedOn (view_of store.lazy) log result.0) script
+        (ServedOn options.finish (view_of store.lazy) log result.0) script
         (D.fault_count (disk_of log)) (D.fault_count result.0) a.0 a.1.items) }
     ensures broken_off { OnErr result.1
         (IsBrokenOffOn (view_of store.lazy) log result.0 script) }

@@ -1,16 +1,22 @@
 //! Laws of the definitions. Each is the contract of a function that does nothing.
 
-ghost use Rattle.std.specs.Prelude.{◌≡◌, ℕ, List, Option, Result};
+ghost use Rattle.std.specs.Prelude.{◌≡◌, ◌+◌, ◌≤◌, ℕ, List, length, Option, Some, Result, true};
 ghost use Rattle.bf_disk.specs.Images.{Only};
+ghost use Rattle.bf_log.specs.Format.{frame};
+ghost use Rattle.bf_recover.specs.Flips.{says_complete};
 ghost use Rattle.bf_lex.specs.declared.fault.ScriptFault.{ScriptFault};
 ghost use Rattle.bf_parse.specs.Scripts.{IsScriptText};
 ghost use Rattle.bf_machine.specs.interleaving.Machines.{EndedGroup};
 ghost use Rattle.bf_sql.specs.Database.{Database};
+ghost use Rattle.bf_sql.specs.migrations.Lazy.{LazyState, sweep_of};
 ghost use Rattle.bf_tree.specs.declared.history.Entry.{Entry};
 ghost use Rattle.bf_tree.specs.declared.script.Script.{Script};
 ghost use Rattle.bf_run.specs.declared.status.Status.{Status};
+ghost use Rattle.bf_run.specs.declared.status.Status.TheVariants.{Done};
+ghost use Rattle.bf_run.specs.Answers.{largest_log, largest_record};
 ghost use Rattle.bf_run.specs.Creating.{TellsFiles, shelf_of};
 ghost use Rattle.bf_run.specs.Keeping.{IsBehindPrefix, KeepsFile, OpensAs};
+ghost use Rattle.bf_run.specs.Options.{IsFinished};
 ghost use Rattle.bf_run.specs.Outcome.{Comes, IsDetermined, Stream};
 ghost use Rattle.bf_run.specs.Running.{OpensTo};
 ghost use Rattle.bf_words.specs.Words.{Asked};
@@ -48,4 +54,12 @@ pub fn where_nothing_was_pending_a_prefix_is_left<D: Disk>()
         (file image : List ℕ) → Only file (D.may_leave old) → OpensTo file start
         → D.left_since new (D.moment old) image
         → OpensAs (IsBehindPrefix script start history) kept.failed image }
+{}
+
+/// A run that was to finish leaves nothing of the last migration to move, where its file has room for one record more
+/// of any size.
+pub fn a_log_with_room_is_finished()
+    ensures { (bytes : List ℕ) (last : LazyState) → IsFinished true Done (Some bytes) last
+        → length bytes + largest_record + frame ≤ largest_log
+        → says_complete (sweep_of last.last) ≡ true }
 {}

@@ -36,8 +36,8 @@ returns-in-Ok-clause-told g c =
     let opened = c.in-Ok.ensures.reopened in
     let could : (left : Option LazyState) → MayLeave first_state StepsTo c.in-Ok.log (Disk.moment disk) left → CouldBeLeft (Disk.may_leave disk) left =
     λ left may. (may.1.0, c.in-Ok.ensures.disk.images.each may.1.0 may.1.1, may.1.2) in
-    let holds : (status : Status) (start : Database) (history : List Entry) (ended : List EndedGroup) (last : LazyState) → ServedOn (view_of lazy) c.in-Ok.log now status c.args.script start history ended last
-    → HoldsOver Disk.seen Disk.may_leave Disk.moment Disk.left_since Disk.fault_count disk now status c.args.script start history ended last = λ status start history ended last is. (
+    let holds : (status : Status) (start : Database) (history : List Entry) (ended : List EndedGroup) (last : LazyState) → ServedOn c.args.options.finish (view_of lazy) c.in-Ok.log now status c.args.script start history ended last
+    → HoldsOver Disk.seen Disk.may_leave Disk.moment Disk.left_since Disk.fault_count c.args.options.finish disk now status c.args.script start history ended last = λ status start history ended last is. (
       subst (IsOpened Disk.seen Disk.may_leave Disk.moment Disk.left_since Disk.fault_count disk) (sym is.0)
           (opened_to Disk.seen Disk.may_leave Disk.moment Disk.left_since Disk.fault_count (asked_options c.args.options) c.args.script disk now lazy opened.gives),
       if_told (Disk.seen now) _
@@ -48,9 +48,10 @@ returns-in-Ok-clause-told g c =
           }),
       is.2,
       is.3,
+      is.4,
     ) in
     IfOk-weaker c.serve_over.result.1 _ _
-    (λ a is. served Disk.seen Disk.may_leave Disk.moment Disk.left_since Disk.fault_count (asked_options c.args.options) c.args.script disk now (ServedOn {g = Disk} (view_of lazy) c.in-Ok.log now) _ _ a.0 a.1.items is c.in-Ok.ensures.faults refl holds)
+    (λ a is. served Disk.seen Disk.may_leave Disk.moment Disk.left_since Disk.fault_count (asked_options c.args.options) c.args.script disk now (ServedOn {g = Disk} c.args.options.finish (view_of lazy) c.in-Ok.log now) _ _ a.0 a.1.items is c.in-Ok.ensures.faults refl holds)
     c.serve_over.ensures.served
 
 pub returns-in-Err-clause-told : goal.returns-in-Err-clause-told

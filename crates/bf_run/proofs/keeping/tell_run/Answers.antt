@@ -8,7 +8,7 @@ use Rattle.bf_run.specs.Crashing.{KeepsOnLog}
 use Rattle.bf_run.specs.Words.{asked_options}
 use Rattle.bf_run.proofs.Kept.{not_spent_if, recovered}
 use Rattle.bf_run.proofs.Untold.{broken_off, kept_behind}
-use Rattle.bf_run.proofs.Serving.{if_ok_by, on_err, report_of, served}
+use Rattle.bf_run.proofs.Serving.{if_ok_by, on_err, on_ok, report_of, served}
 use Rattle.bf_run.proofs.keeping.tell_run.Goals as goal
 
 pub returns-clause-served : goal.returns-clause-served
@@ -26,6 +26,7 @@ returns-clause-served g c =
     let kept : IsKept opening m = c.events_keep_all.ensures.new true store script c.args.options.retries opens c.requires.limits in
     let kept_now : IsKept opening now = kept_behind {g = g.D.Disk} opening m now j k kept keeps in
     let parts : LeavesParts now c.in-Ok.parts = IfOk-at_ok (LeavesParts now) c.in-Ok.is by.2 in
+    let finishes = on_ok c.in-Ok.is by.3 in
     let ran = c.sessions_that_have_ended_ran_with_deaths.ensures opening true store script c.args.options.retries m now j k keeps refl kept parts.ended in
     let recovers = recovered {g = g.D.Disk} opening store.lazy m now j k refl kept c.requires.stands c.requires.alone keeps c.every_crash_leaves_a_prefix.ensures.whole in
     let taken = not_spent_if k.log.standing (sym c.if-is_given_up.false ∙ c.is_given_up.ensures) in
@@ -35,7 +36,7 @@ returns-clause-served g c =
     (c.what_ends_groups_is_told.ensures.replies opening m now j k keeps kept)
     (c.what_ends_groups_is_told.ensures.causes opening m now j k keeps c.requires.ready)
     (c.a_size_that_is_told_is_that_of_a_record.ensures opening m now j k keeps kept)
-    recovers taken c.faults-faults.result c.faults-faults.ensures a.0 a.1.items (text ∙ report_of c.args.options.audit now c.in-Ok.parts parts) fault done)
+    recovers finishes taken c.faults-faults.result c.faults-faults.ensures a.0 a.1.items (text ∙ report_of c.args.options.audit now c.in-Ok.parts parts) fault done)
     told.text told.fault told.done
 
 pub returns-clause-broken_off : goal.returns-clause-broken_off
