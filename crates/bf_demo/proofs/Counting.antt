@@ -8,11 +8,11 @@ use Rattle.bf_base.specs.Lists.{with_before_from}
 use Rattle.bf_tree.specs.declared.history.Entry.{Entry}
 use Rattle.bf_sql.specs.Groups.{groups_in, groups_of}
 use Rattle.bf_sql.specs.History.{is_whole_group, may_precede}
-use Rattle.bf_demo.specs.Replies.{group_of}
+use Rattle.bf_demo.specs.Replies.{transactions}
 use Rattle.bf_demo.specs.Script.{credits, demonstration, openings}
 use Rattle.bf_demo.proofs.Committing.{is_group}
 use Rattle.bf_demo.proofs.Grouping.{groups_of_credits, groups_of_openings, lone, triples}
-use Rattle.bf_demo.proofs.Phasing.{are_before, of_session}
+use Rattle.bf_demo.proofs.Phasing.{are_before, group_of, of_session}
 
 abbrev Group : Type 0
 Group = ℕ × ℕ
@@ -235,7 +235,7 @@ none_there n s none (e ∷ es) whole =
         absurd (false≢true (sym (ap (λ (gs : List Group). list_any (is_group e.first e.last) gs) (ap (groups_in (demonstration n)) (eqb-true e.session s t) ∙ none)) ∙ wholes.0))
     go false t wholes more = rw t (more wholes.1)
 
-module _ (n : ℕ) (h : List Entry) (whole : list_all (is_whole_group (demonstration n)) h ≡ true) (ok : list_all (are_before n) (with_before_from [] h) ≡ true) (many : length h ≡ 5 * n + 4) where
+module _ (n : ℕ) (h : List Entry) (whole : list_all (is_whole_group (demonstration n)) h ≡ true) (ok : list_all (are_before n) (with_before_from [] h) ≡ true) (many : length h ≡ transactions n) where
   first_groups : groups_in (demonstration n) 1 ≡ lone 1 (suc n)
   first_groups = ap (λ (gs : List Group). (1, 1) ∷ gs) (groups_of_openings n 2 1)
 

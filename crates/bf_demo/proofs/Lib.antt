@@ -9,3 +9,4 @@ pub mod Replaying
 pub mod Phasing
 pub mod Committing
 pub mod Showing
+pub mod Counting

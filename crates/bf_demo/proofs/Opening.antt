@@ -54,7 +54,7 @@ accounts_more m k =
     ap (λ s. accounts m ++ map account (range_with_len s k)) e
     ∙ (sym (map-append account (range_with_len 1 m) (range_with_len (1 + m) k)) ∙ ap (map account) (range_joined 1 m k))
 
-pub opens_more : (c b : ℕ) → b ≤ 1000 → executed c (opened (accounts (16 * b))) false (opening (b + 1)) ≡ answers (reply.Inserted 16) (opened (accounts (16 * (b + 1))))
+pub opens_more : (c b : ℕ) → b ≤ 65535 → executed c (opened (accounts (16 * b))) false (opening (b + 1)) ≡ answers (reply.Inserted 16) (opened (accounts (16 * (b + 1))))
 opens_more c b h =
     let from : 16 * ((b + 1) - 1) + 1 ≡ 16 * b + 1 = omega arith in
     let to : 16 * b + 16 ≡ 16 * (b + 1) = omega arith in

@@ -76,6 +76,10 @@ cut n c (e ∷ es) r = go (phase n e == c) refl (λ same. cut n c es (subst (λ 
         record { front = e ∷ rest.front; back = rest.back; whole = ap (λ (xs : List Entry). e ∷ xs) rest.whole; here = rw t rest.here; later = rest.later }
     go false t more = record { front = []; back = e ∷ es; whole = refl; here = refl; later = (above c (phase n e) r.0 t, r.1) }
 
+-- the first and the last statement of an entry
+abbrev pub group_of : Entry → ℕ × ℕ
+group_of e = (e.first, e.last)
+
 -- THE ENTRIES OF A SESSION in a phase
 abbrev pub of_session : ℕ → List Entry → List Entry
 of_session s es = filter (λ e. e.session == s) es

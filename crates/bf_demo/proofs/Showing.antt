@@ -16,13 +16,13 @@ use Rattle.bf_sql.specs.Database.{Database, empty_database}
 use Rattle.bf_sql.specs.Groups.{groups_in, groups_of, statements_in, statements_of}
 use Rattle.bf_sql.specs.History.{is_whole_group, replayed, replayed_behind, replies_to, run_group, told}
 use Rattle.bf_sql.specs.Meaning.{executed}
-use Rattle.bf_demo.specs.Replies.{HasCommitted, counted, group_of, last_replies, sum_of_owners}
+use Rattle.bf_demo.specs.Replies.{IsReplayed, counted, last_replies, sum_of_owners}
 use Rattle.bf_demo.specs.Script.{acct, bal, credit, credits, demonstration, new_table, opening, openings, owner, split, sum_up, who}
 use Rattle.bf_demo.proofs.Committing.{AreCommitted, IsCommitted, all_committed, back_committed, credits_of, front_committed}
 use Rattle.bf_demo.proofs.Crediting.{as_many, credited, credits_to, total, total_grows}
 use Rattle.bf_demo.proofs.Grouping.{an_opening, groups_of_credits, groups_of_openings, lone, triples}
 use Rattle.bf_demo.proofs.Opening.{opens_more}
-use Rattle.bf_demo.proofs.Phasing.{Cut, Rises, all_later, all_of_phase, cut, none_later, none_of_phase, of_session, only_first, only_last, only_second, phase, phase_of, rises_from_one, weight, weights}
+use Rattle.bf_demo.proofs.Phasing.{Cut, Rises, all_later, all_of_phase, cut, group_of, none_later, none_of_phase, of_session, only_first, only_last, only_second, phase, phase_of, rises_from_one, weight, weights}
 use Rattle.bf_demo.proofs.Replaying.{Reaches, joins, stays, steps, tails}
 use Rattle.bf_demo.proofs.Splitting.{hundreds, remainders, splits}
 use Rattle.bf_demo.proofs.States.{accounts, answers, created, opened, parted, rows_of}
@@ -43,7 +43,7 @@ statements_at n k first last e s f l =
     ∙ (ap (λ i. statements_in (demonstration n) k (i, e.last)) f ∙ ap (λ i. statements_in (demonstration n) k (first, i)) l)
 
 -- A PHASE AFTER THE OTHER
-opens_reach : (n m b : ℕ) → b + m ≡ n → n ≤ 1000 → (es : List Entry) → list_all (λ e. phase n e == 1) es ≡ true → AreCommitted es → map group_of es ≡ lone (b + 2) m
+opens_reach : (n m b : ℕ) → b + m ≡ n → n ≤ 65535 → (es : List Entry) → list_all (λ e. phase n e == 1) es ≡ true → AreCommitted es → map group_of es ≡ lone (b + 2) m
     → Reaches (demonstration n) (start_of b) es (start_of n)
 opens_reach n zero b sum few [] here done pairs =
     let e : b ≡ n = omega arith in
@@ -61,7 +61,7 @@ opens_reach n (suc m) b sum few (e ∷ es) here done pairs =
     joins (demonstration n) (start_of b) (start_of (b + 1)) (start_of n) (e ∷ []) es step
     (opens_reach n m (b + 1) (omega arith) few es both.1 done.1 (group.2 ∙ ap (λ k. lone k m) next))
 
-first_reach : (n : ℕ) → n ≤ 1000 → (es : List Entry) → list_all (λ e. phase n e == 1) es ≡ true → AreCommitted es → map group_of es ≡ lone 1 (suc n)
+first_reach : (n : ℕ) → n ≤ 65535 → (es : List Entry) → list_all (λ e. phase n e == 1) es ≡ true → AreCommitted es → map group_of es ≡ lone 1 (suc n)
     → Reaches (demonstration n) empty_database es (start_of n)
 first_reach n few [] here done pairs = absurd cc
 first_reach n few (e ∷ es) here done pairs =
@@ -77,7 +77,7 @@ first_reach n few (e ∷ es) here done pairs =
 abbrev split_of : ℕ → Database
 split_of n = parted (rows_of 1 (hundreds (16 * n))) (rows_of 1 (remainders (16 * n)))
 
-split_reach : (n : ℕ) → n ≤ 1000 → (es : List Entry) → list_all (λ e. phase n e == 2) es ≡ true → AreCommitted es → map group_of es ≡ lone 1 1
+split_reach : (n : ℕ) → n ≤ 65535 → (es : List Entry) → list_all (λ e. phase n e == 2) es ≡ true → AreCommitted es → map group_of es ≡ lone 1 1
     → Reaches (demonstration n) (start_of n) es (split_of n)
 split_reach n few [] here done pairs = absurd cc
 split_reach n few (e ∷ d ∷ es) here done pairs = let rest = (pair_parts (group_of e) (1, 1) (group_of d ∷ map group_of es) [] pairs).2 in absurd cc
@@ -143,7 +143,7 @@ small_remainders zero a = omega arith
 small_remainders (suc k) a = let more = small_remainders k (a + 1) in omega arith
 
 -- the two last entries, and what they are told
-last_told : (n : ℕ) → 1 ≤ n → n ≤ 1000 → (transcripts : List (List Reply)) (k : ℕ) (ys : List ℕ) (es : List Entry) → Rises n 4 es → AreCommitted es → map group_of es ≡ lone 1 2
+last_told : (n : ℕ) → 1 ≤ n → n ≤ 65535 → (transcripts : List (List Reply)) (k : ℕ) (ys : List ℕ) (es : List Entry) → Rises n 4 es → AreCommitted es → map group_of es ≡ lone 1 2
     → length ys ≡ 16 * n → total ys ≡ 1610 * n → map (told transcripts) es ≡ (replayed_behind k (demonstration n) (parted (rows_of 1 ys) (rows_of 1 (remainders (16 * n)))) es).0
     → replies_to transcripts 7 (1, 1) ++ replies_to transcripts 7 (2, 2) ≡ last_replies n
 last_told n some few transcripts k ys [] r done pairs size sum replies = absurd cc
@@ -190,7 +190,8 @@ length_of_triples (suc m) k = ap suc (length_of_triples m (k + 1 + 1 + 1))
 front_of : (p : Entry → Bool) (xs ys : List Entry) → list_all p (xs ++ ys) ≡ true → (list_all p xs ≡ true) × (list_all p ys ≡ true)
 front_of p xs ys h = and_parts (list_all p xs) (list_all p ys) (sym (list_all-append p xs ys) ∙ h)
 
-module _ (n : ℕ) (some : 1 ≤ n) (few : n ≤ 1000) (transcripts : List (List Reply)) (history : List Entry) (did : HasCommitted (demonstration n) empty_database transcripts history) where
+module _ (n : ℕ) (some : 1 ≤ n) (few : n ≤ 65535) (transcripts : List (List Reply)) (history : List Entry) (did : IsReplayed (demonstration n) empty_database transcripts history)
+    (each : (s : ℕ) → map group_of (of_session s history) ≡ groups_in (demonstration n) s) where
   abbrev script : Script
   script = demonstration n
 
@@ -226,7 +227,7 @@ module _ (n : ℕ) (some : 1 ≤ n) (few : n ≤ 1000) (transcripts : List (List
       ∙ ap (λ (es : List Entry). of_session s a ++ es) (filter-append p b (c ++ z) ∙ ap (λ (es : List Entry). of_session s b ++ es) (filter-append p c z)))
 
   groups_of_session : (s : ℕ) → map group_of (of_session s history) ≡ groups_in script s
-  groups_of_session s = did.each_group s
+  groups_of_session s = each s
 
   first_groups : map group_of a ≡ lone 1 (suc n)
   first_groups =

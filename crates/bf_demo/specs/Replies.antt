@@ -1,5 +1,5 @@
--- WHAT THE DEMONSTRATION SHOWS: the replies to its last session, where each of its transactions has committed.
-use Rattle.std.specs.Prelude.{◌≡◌, ℕ, ◌+◌, ◌*◌, ◌/◌, ◌%◌, ◌&&◌, ◌==◌, List, [], ◌∷◌, map, filter, IsTrue}
+-- WHAT THE LAST SESSION of the demonstration is told, where each of its transactions has committed.
+use Rattle.std.specs.Prelude.{◌≡◌, ℕ, ◌+◌, ◌*◌, ◌/◌, ◌%◌, List, [], ◌∷◌, map, IsTrue}
 use Rattle.std.specs.List.{list_all}
 use Rattle.bf_base.specs.Lists.{with_before}
 use Rattle.bf_tree.specs.declared.history.Entry.{Entry}
@@ -8,7 +8,7 @@ use Rattle.bf_tree.specs.declared.reply.Reply.{Reply}
 use Rattle.bf_tree.specs.declared.reply.Reply.TheVariants.{Rows}
 use Rattle.bf_tree.specs.declared.script.Script.{Script}
 use Rattle.bf_sql.specs.Database.{Database}
-use Rattle.bf_sql.specs.Groups.{groups_in, outcomes_from, statements_of}
+use Rattle.bf_sql.specs.Groups.{outcomes_from, statements_of}
 use Rattle.bf_sql.specs.History.{is_whole_group, may_precede, replayed, told}
 use Rattle.bf_demo.specs.Script.{number}
 
@@ -28,14 +28,13 @@ sum_of_owners m = 21 * (m / 7) + triangle (m % 7)
 abbrev pub last_replies : ℕ → List Reply
 last_replies n = counted (16 * n) (1610 * n) ∷ counted (16 * n) (sum_of_owners (16 * n)) ∷ []
 
-abbrev pub group_of : Entry → ℕ × ℕ
-group_of e = (e.first, e.last)
-
--- COMMITTED: transcripts and history are legal, as far as that is not about groups without an entry; and there is none, since the
--- entries of each session are its groups
-pub record HasCommitted (script : Script) (start : Database) (transcripts : List (List Reply)) (history : List Entry) : Type 0 where
+-- REPLAYED: transcripts and history are legal as far as that is about groups that have an entry. What groups without one are told is left out
+pub record IsReplayed (script : Script) (start : Database) (transcripts : List (List Reply)) (history : List Entry) : Type 0 where
   pub whole_groups : IsTrue (list_all (is_whole_group script) history)
   pub in_order : IsTrue (list_all (λ p. list_all (λ d. may_precede script d p.1) p.0) (with_before history))
   pub outcomes : map (λ e. e.outcome) history ≡ outcomes_from 1 (map (statements_of script) history)
   pub replies : map (told transcripts) history ≡ (replayed script start history).0
-  pub each_group : (s : ℕ) → map group_of (filter (λ e. e.session == s) history) ≡ groups_in script s
+
+-- the number of the demonstration's transactions
+abbrev pub transactions : ℕ → ℕ
+transactions n = 5 * n + 4

@@ -15,6 +15,7 @@ ghost use Rattle.bf_run.specs.Words.{IfCreating, IfNoPath, IfRunning, asked_opti
 ghost use Rattle.bf_words.specs.Words.{asked, running};
 
 use crate::creating::create;
+use crate::demonstrating::demonstrate;
 use crate::keeping::{RunOptions, run};
 use crate::status::{Status, fault_line};
 use bf_base::{LONGEST_SCRIPT, Memory};
@@ -249,6 +250,7 @@ where
             run_input(alloc, rt, path, options, input, shelf)
         }
         Ok(Words::Create(path)) => create(alloc, path, shelf),
+        Ok(Words::Demo { count, path }) => demonstrate(alloc, rt, count, path, shelf),
         Err(WordsError::Usage) => usage(alloc),
     }
 }
@@ -256,7 +258,8 @@ where
 /// Serves the words behind the program's name: `try` runs the script that the input is over a database that is
 /// empty and is not kept, and writes its report; `create` makes an empty log in the file under a path of the shelf,
 /// if it is new or empty, and reads nothing of the input; `run` runs the script over the database that the log under
-/// a path keeps, which it reads first, and adds to the log what the script changes.
+/// a path keeps, which it reads first, and adds to the log what the script changes; `demo` makes a log as `create` does,
+/// runs the demonstration of a size over it, and writes the replies to its last session and the last line of the report.
 ///
 /// The whole text is made before its first byte is written, so want of memory is answered with
 /// nothing written. The time of a run is linear in the input and in the report; beside that each statement

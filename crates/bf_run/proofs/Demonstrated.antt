@@ -1,0 +1,164 @@
+-- What comes of a log that is made for the demonstration, and of the run over it.
+use Rattle.std.proofs.Common.{◌≡◌, ◌≢◌, ◌⊎◌, inl, inr, ℕ, suc, zero, ◌+◌, ◌-◌, ◌*◌, ◌<◌, ◌≤◌, min, Bool, true, false, ◌&&◌, List, [], ◌∷◌, ◌++◌, map, flat_map, length, Option, None, Some, codes, refl, sym, ap, subst, ◌∙◌, arith}
+use Rattle.std.specs.List.{AllByRecursion, list_all, range_with_len}
+use Rattle.bf_disk.specs.Shelves.{ByPath}
+use Rattle.bf_io.specs.Causes.{Rose, last_count}
+use Rattle.bf_io.specs.Whole.{IfTold}
+use Rattle.bf_machine.specs.interleaving.Kept.{IsWithinLimits}
+use Rattle.bf_tree.specs.Limits.{IsNarrowIfMigrate, is_narrow_script, is_narrow_statement}
+use Rattle.bf_tree.specs.declared.script.Script.{Script}
+use Rattle.bf_tree.specs.declared.script.Session.{Session}
+use Rattle.bf_demo.specs.Script.{credit, demonstration, opening, openings}
+use Rattle.bf_demo.specs.Shown.{shown_of}
+use Rattle.bf_run.specs.Creating.{CountsNone, CountsOne, IsEmptyFile, IsNewLog, IsReadAlone, KeepsBytes, Makes, Shelving, Spares, WhereHeld}
+use Rattle.bf_run.specs.Outcome.{ComesOfDemonstration, ComesOfFile, HoldsAsked, HoldsOfLog, IsTextOf, fault_of_disk}
+use Rattle.bf_run.specs.Running.{KeepsOthers}
+use Rattle.bf_run.specs.Sayable.{IsSayable, IsSayableScript}
+use Rattle.bf_run.specs.Top.{IsShownRun}
+use Rattle.bf_run.specs.declared.status.Status.{Status}
+use Rattle.bf_run.specs.declared.status.Status.TheVariants.{Done, Usage, Script as ScriptError, ReadFault, WriteFault, DiskFault, NotALog, NotEmpty, Memory}
+use Rattle.bf_words.specs.Words.{creating, demonstrating}
+
+-- THE SCRIPT is within the limits of the language, and a log can keep what it makes
+narrow_openings : (m b : ℕ) → list_all is_narrow_statement (map opening (range_with_len b m)) ≡ true
+narrow_openings zero b = refl
+narrow_openings (suc m) b = narrow_openings m (b + 1)
+
+narrow_credits : (s base m b : ℕ) → list_all is_narrow_statement (flat_map (λ j. credit s (base + j)) (range_with_len b m)) ≡ true
+narrow_credits s base zero b = refl
+narrow_credits s base (suc m) b = narrow_credits s base m (b + 1)
+
+narrow : (n : ℕ) → is_narrow_script (demonstration n) ≡ true
+narrow n =
+    rw (narrow_openings n 1, narrow_credits 1 (4 * n * 0) n 1, narrow_credits 2 (4 * n * 1) n 1, narrow_credits 3 (4 * n * 2) n 1, narrow_credits 4 (4 * n * 3) n 1) refl
+
+few_openings : (m b : ℕ) → AllByRecursion IsNarrowIfMigrate (map opening (range_with_len b m))
+few_openings zero b = tt
+few_openings (suc m) b = (tt, few_openings m (b + 1))
+
+few_credits : (s base m b : ℕ) → AllByRecursion IsNarrowIfMigrate (flat_map (λ j. credit s (base + j)) (range_with_len b m))
+few_credits s base zero b = tt
+few_credits s base (suc m) b = (tt, (tt, (tt, few_credits s base m (b + 1))))
+
+pub within : (n : ℕ) → IsWithinLimits (demonstration n)
+within n = record {
+  narrow = narrow n;
+  migrates = (
+    (tt, few_openings n 1),
+    ((record { targets = omega arith; arms = omega arith; items = refl }, tt),
+    (few_credits 1 (4 * n * 0) n 1, (few_credits 2 (4 * n * 1) n 1, (few_credits 3 (4 * n * 2) n 1, (few_credits 4 (4 * n * 3) n 1, ((tt, (tt, tt)), tt)))))),
+  );
+}
+
+said_openings : (m b : ℕ) → AllByRecursion IsSayable (map opening (range_with_len b m))
+said_openings zero b = tt
+said_openings (suc m) b = (tt, said_openings m (b + 1))
+
+said_credits : (s base m b : ℕ) → AllByRecursion IsSayable (flat_map (λ j. credit s (base + j)) (range_with_len b m))
+said_credits s base zero b = tt
+said_credits s base (suc m) b = (tt, (tt, (tt, said_credits s base m (b + 1))))
+
+pub sayable : (n : ℕ) → IsSayableScript (demonstration n)
+sayable n = (
+  (refl, said_openings n 1),
+  (((refl, search rules), tt),
+  (said_credits 1 (4 * n * 0) n 1, (said_credits 2 (4 * n * 1) n 1, (said_credits 3 (4 * n * 2) n 1, (said_credits 4 (4 * n * 3) n 1, ((tt, (tt, tt)), tt)))))),
+)
+
+-- A SHELF before a log was made, when it was, and behind the run
+module _ {V : Type 0} (shelf : Shelving V) (path : List ℕ) (made : Option (ByPath V)) (faults : ℕ) where
+  abbrev making : Shelving V
+  making = record shelf { held_after = made; faults_after = faults }
+
+  abbrev later : Shelving V
+  later = record shelf { held = made; faults = faults }
+
+  pub counted : CountsNone making → CountsOne later → CountsOne shelf
+  counted (inl same) rose = omega (arith, same, rose)
+  counted (inr last) rose = omega (arith, last, rose)
+
+  spared_bytes : (old new : Option V) → IsEmptyFile shelf old → KeepsBytes shelf old new
+  spared_bytes None new empty = tt
+  spared_bytes (Some disk) new empty = go (shelf.seen disk) empty
+    where
+      go : (told : Option (List ℕ)) → IfTold told (λ file. file ≡ []) → IfTold told (λ file. 0 < length file → IsReadAlone shelf (Some disk) new)
+      go None none = tt
+      go (Some file) none = λ some. absurd (omega (arith, ap length none, some))
+
+  spared_in : (before mid after : Option (ByPath V)) → WhereHeld (λ old new. IsEmptyFile shelf (old path) × IsNewLog shelf (new path)) before mid
+      → WhereHeld (λ old new. ((other : List ℕ) → other ≢ path → new other ≡ old other) × KeepsBytes shelf (old path) (new path)) before mid
+      → WhereHeld (λ old new. (other : List ℕ) → other ≢ path → new other ≡ old other) mid after
+      → WhereHeld (λ old new. ((other : List ℕ) → other ≢ path → new other ≡ old other) × KeepsBytes shelf (old path) (new path)) before after
+  spared_in None None None makes first then = tt
+  spared_in None None (Some after) makes first then = absurd then
+  spared_in None (Some mid) after makes first then = absurd makes
+  spared_in (Some before) None after makes first then = absurd makes
+  spared_in (Some before) (Some mid) None makes first then = absurd then
+  spared_in (Some before) (Some mid) (Some after) makes first then =
+      (λ other apart. then other apart ∙ first.0 other apart, spared_bytes (before path) (after path) makes.0)
+
+  pub spared : Makes making path → Spares making path → KeepsOthers later path → Spares shelf path
+  spared makes first then = spared_in shelf.held made shelf.held_after makes.1 first then
+
+  -- what is told of the run is told of the demonstration
+  module _ (makes : Makes making path) (count : ℕ) where
+    pub run_comes : (status : Status) (text : List ℕ) → IsShownRun path later (demonstration count) status text → ComesOfDemonstration path shelf status
+    run_comes Done text ran = (made, faults, makes, ran.0)
+    run_comes DiskFault text ran = counted makes.0 ran.0
+    run_comes Usage text ran = absurd ran
+    run_comes (ScriptError f) text ran = absurd ran
+    run_comes ReadFault text ran = absurd ran
+    run_comes WriteFault text ran = absurd ran
+    run_comes (NotALog at) text ran = absurd ran
+    run_comes (NotEmpty n) text ran = absurd ran
+    run_comes Memory text ran = absurd ran
+
+    pub run_is_told : (status : Status) (text : List ℕ) → IsShownRun path later (demonstration count) status text → (bytes : List ℕ)
+        → IsTextOf (Some (demonstrating count path)) (HoldsAsked (Some (demonstrating count path)) shelf) (Unit {0}) bytes status text
+    run_is_told Done text ran bytes =
+        let told = ran.1.1 in
+        (ran.1.0, record {
+          start = told.start;
+          transcripts = told.transcripts;
+          history = told.history;
+          ended = told.ended;
+          sweep = told.sweep;
+          is_run = told.is_run;
+          told = told.told;
+          holds = (made, faults, makes, told.holds);
+          report_written = told.report_written;
+        }, ran.1.2)
+    run_is_told DiskFault text ran bytes = ran.1
+    run_is_told Usage text ran bytes = absurd ran
+    run_is_told (ScriptError f) text ran bytes = absurd ran
+    run_is_told ReadFault text ran bytes = absurd ran
+    run_is_told WriteFault text ran bytes = absurd ran
+    run_is_told (NotALog at) text ran bytes = absurd ran
+    run_is_told (NotEmpty n) text ran bytes = absurd ran
+    run_is_told Memory text ran bytes = absurd ran
+
+-- where no log was made, that is told
+module _ {V : Type 0} (shelf : Shelving V) (path : List ℕ) (count : ℕ) where
+  pub refusal_comes : (status : Status) → (status ≡ Done → ⊥) → ComesOfFile path shelf status → ComesOfDemonstration path shelf status
+  refusal_comes Done not comes = absurd (not refl)
+  refusal_comes DiskFault not comes = comes
+  refusal_comes (NotEmpty n) not comes = comes
+  refusal_comes Memory not comes = comes
+  refusal_comes Usage not comes = absurd comes
+  refusal_comes (ScriptError f) not comes = absurd comes
+  refusal_comes ReadFault not comes = absurd comes
+  refusal_comes WriteFault not comes = absurd comes
+  refusal_comes (NotALog at) not comes = absurd comes
+
+  pub refusal_is_told : (status : Status) (text : List ℕ) → (status ≡ Done → ⊥)
+      → ((bytes : List ℕ) → IsTextOf (Some (creating path)) (λ status script start history ended last. ⊥) (Unit {0}) bytes status text) → (bytes : List ℕ)
+      → IsTextOf (Some (demonstrating count path)) (HoldsAsked (Some (demonstrating count path)) shelf) (Unit {0}) bytes status text
+  refusal_is_told Done text not told bytes = absurd (not refl)
+  refusal_is_told DiskFault text not told bytes = told bytes
+  refusal_is_told (NotEmpty n) text not told bytes = told bytes
+  refusal_is_told Memory text not told bytes = told bytes
+  refusal_is_told Usage text not told bytes = told bytes
+  refusal_is_told (ScriptError f) text not told bytes = told bytes
+  refusal_is_told ReadFault text not told bytes = told bytes
+  refusal_is_told WriteFault text not told bytes = told bytes
+  refusal_is_told (NotALog at) text not told bytes = told bytes
