@@ -8,5 +8,7 @@ pub mod Grouping
 pub mod Replaying
 pub mod Phasing
 pub mod Committing
-pub mod Showing
+pub mod LastReplies
 pub mod Counting
+pub mod Telling
+pub mod Steps

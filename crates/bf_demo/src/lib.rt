@@ -1,4 +1,11 @@
-//! The demonstration: a script of a size, and what its last session is told.
+//! The demonstration: a script by its size, which shows a table split while it is in use; what is shown
+//! of its report; and what its last session is told.
 #![tactic(auto)]
 
 pub mod laws;
+pub mod script;
+pub mod showing;
+mod words;
+
+pub use script::demonstration;
+pub use showing::shown;

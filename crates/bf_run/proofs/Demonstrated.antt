@@ -4,7 +4,13 @@ use Rattle.std.specs.List.{AllByRecursion, list_all, range_with_len}
 use Rattle.bf_disk.specs.Shelves.{ByPath}
 use Rattle.bf_io.specs.Causes.{Rose, last_count}
 use Rattle.bf_io.specs.Whole.{IfTold}
+use Rattle.bf_journal.specs.Reopening.{After}
+use Rattle.bf_log.specs.Format.{IsChain, empty_log, entry, magic, open_gate}
 use Rattle.bf_machine.specs.interleaving.Kept.{IsWithinLimits}
+use Rattle.bf_recover.specs.Legal.{first_state}
+use Rattle.bf_recover.specs.Steps.{StepsTo}
+use Rattle.bf_sql.specs.Database.{Database, empty_database}
+use Rattle.bf_sql.specs.migrations.Lazy.{LazyState, view_of}
 use Rattle.bf_tree.specs.Limits.{IsNarrowIfMigrate, is_narrow_script, is_narrow_statement}
 use Rattle.bf_tree.specs.declared.script.Script.{Script}
 use Rattle.bf_tree.specs.declared.script.Session.{Session}
@@ -12,7 +18,7 @@ use Rattle.bf_demo.specs.Script.{credit, demonstration, opening, openings}
 use Rattle.bf_demo.specs.Shown.{shown_of}
 use Rattle.bf_run.specs.Creating.{CountsNone, CountsOne, IsEmptyFile, IsNewLog, IsReadAlone, KeepsBytes, Makes, Shelving, Spares, WhereHeld}
 use Rattle.bf_run.specs.Outcome.{ComesOfDemonstration, ComesOfFile, HoldsAsked, HoldsOfLog, IsTextOf, fault_of_disk}
-use Rattle.bf_run.specs.Running.{KeepsOthers}
+use Rattle.bf_run.specs.Running.{KeepsOthers, OpensTo}
 use Rattle.bf_run.specs.Sayable.{IsSayable, IsSayableScript}
 use Rattle.bf_run.specs.Top.{IsShownRun}
 use Rattle.bf_run.specs.declared.status.Status.{Status}
@@ -162,3 +168,23 @@ module _ {V : Type 0} (shelf : Shelving V) (path : List ℕ) (count : ℕ) where
   refusal_is_told ReadFault text not told bytes = told bytes
   refusal_is_told WriteFault text not told bytes = told bytes
   refusal_is_told (NotALog at) text not told bytes = told bytes
+
+-- A LOG THAT WAS JUST MADE has no records, and so opens to the first state
+no_payloads : (payloads : List (List ℕ)) (chain : List ℕ) → empty_log ≡ magic ++ chain → IsChain payloads chain → payloads ≡ []
+no_payloads [] chain e is = refl
+no_payloads (payload ∷ payloads) chain e is =
+    let zero : chain ≡ 0 ∷ [] = cc in
+    let begins : 0 ∷ [] ≡ entry payload ++ is.0 = sym zero ∙ is.2 in
+    let gate : 0 ≡ open_gate = cc in
+    absurd (omega (arith, gate))
+
+behind_none : (payloads : List (List ℕ)) (state : LazyState) → payloads ≡ [] → After StepsTo first_state payloads state → first_state ≡ state
+behind_none [] state none after = after
+behind_none (payload ∷ payloads) state none after = absurd cc
+
+pub opens_empty : (start : Database) → OpensTo empty_log start → start ≡ empty_database
+opens_empty start opens =
+    let reopens = opens.1 in
+    let log = reopens.1 in
+    let first = behind_none reopens.0 opens.0 (no_payloads reopens.0 log.0 log.1 log.2) reopens.2 in
+    opens.2 ∙ ap view_of (sym first)

@@ -6,6 +6,7 @@ mod auditing;
 mod changes;
 mod creating;
 pub mod death_laws;
+pub mod demo_laws;
 mod demonstrating;
 pub mod journal_laws;
 mod keeping;

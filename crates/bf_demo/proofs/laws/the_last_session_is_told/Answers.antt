@@ -1,5 +1,5 @@
 use Rattle.bf_demo.proofs.Counting.{each_group}
-use Rattle.bf_demo.proofs.Showing.{shows}
+use Rattle.bf_demo.proofs.LastReplies.{shows}
 use Rattle.bf_demo.proofs.laws.the_last_session_is_told.Goals as goal
 
 pub returns : goal.returns

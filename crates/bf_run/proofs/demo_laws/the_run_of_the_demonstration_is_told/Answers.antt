@@ -1,0 +1,10 @@
+use Rattle.bf_demo.proofs.Counting.{each_group}
+use Rattle.bf_demo.proofs.LastReplies.{shows}
+use Rattle.bf_demo.proofs.Telling.{tells}
+use Rattle.bf_run.proofs.demo_laws.the_run_of_the_demonstration_is_told.Goals as goal
+
+pub returns : goal.returns
+returns c = λ n retries ended transcripts history sweep some few run many.
+    let legal = run.history_legal in
+    let replayed = record { whole_groups = legal.whole_groups; in_order = legal.in_order; outcomes = legal.outcomes; replies = legal.replies } in
+    tells n transcripts run.all_answered (shows n some few transcripts history replayed (each_group n history legal.whole_groups legal.in_order many))
