@@ -1,15 +1,15 @@
 -- Each entry of the demonstration's history has committed.
-use Rattle.std.proofs.Common.{◌≡◌, ℕ, suc, zero, ◌+◌, ◌-◌, ◌*◌, ◌<◌, ◌≤◌, ◌==◌, Bool, false, true, ◌&&◌, List, [], ◌∷◌, ◌++◌, map, flat_map, None, refl, sym, ap, subst, ◌∙◌, arith}
+use Rattle.std.proofs.Common.{◌≡◌, ℕ, suc, zero, ◌+◌, ◌-◌, ◌*◌, ◌<◌, ◌≤◌, ◌==◌, Bool, false, true, ◌&&◌, List, [], ◌∷◌, ◌++◌, map, refl, sym, ap, ◌∙◌, arith}
 use Rattle.std.proofs.lemmas.Bool.{eqb-true, false≢true, and_parts}
-use Rattle.std.specs.List.{list_all, list_any, range_with_len}
+use Rattle.std.specs.List.{list_all, list_any}
 use Rattle.bf_base.specs.Lists.{part}
 use Rattle.bf_tree.specs.declared.history.Entry.{Entry}
 use Rattle.bf_tree.specs.declared.history.Outcome.{Outcome}
 use Rattle.bf_tree.specs.declared.history.Outcome.TheVariants.{Committed}
 use Rattle.bf_tree.specs.declared.statement.Statement.{Statement}
-use Rattle.bf_sql.specs.Groups.{commits, groups_from, groups_in, groups_of, outcomes_from, statements_in, statements_of}
+use Rattle.bf_sql.specs.Groups.{commits, groups_in, groups_of, outcomes_from, statements_in, statements_of}
 use Rattle.bf_sql.specs.History.{is_whole_group}
-use Rattle.bf_demo.specs.Script.{acct, bal, credit, credits, demonstration, new_table, opening, openings, owner, split, sum_up, who}
+use Rattle.bf_demo.specs.Script.{acct, bal, credit, credits, demonstration, openings, owner, split, sum_up, who}
 use Rattle.bf_demo.proofs.Grouping.{a_credit, a_triple, an_opening, groups_of_credits, groups_of_openings, lone, triples}
 use Rattle.bf_demo.proofs.Phasing.{phase_of}
 

@@ -1,15 +1,15 @@
 -- A history with as many entries as there are groups has each group.
-use Rattle.std.proofs.Common.{◌≡◌, ℕ, suc, zero, ◌+◌, ◌*◌, ◌<◌, ◌≤◌, ◌==◌, nat_le, nat_lt, Bool, false, true, not, ◌&&◌, ◌||◌, List, [], ◌∷◌, ◌++◌, map, filter, length, refl, sym, ap, subst, ◌∙◌, arith}
-use Rattle.std.proofs.lemmas.Bool.{both_ways, eq-eqb, eqb-true, false≢true, leb-true, ltb-true, and_parts, ne_eqb}
+use Rattle.std.proofs.Common.{◌≡◌, ℕ, suc, zero, ◌+◌, ◌*◌, ◌<◌, ◌≤◌, ◌==◌, nat_lt, Bool, false, true, not, ◌||◌, List, [], ◌∷◌, ◌++◌, map, length, refl, sym, ap, subst, ◌∙◌, arith}
+use Rattle.std.proofs.lemmas.Bool.{eq-eqb, eqb-true, false≢true, ltb-true, and_parts, ne_eqb}
 use Rattle.std.proofs.lemmas.List.{length-map}
 use Rattle.std.proofs.lemmas.List.Folds.{list_all-append}
 use Rattle.std.specs.List.{list_all, list_any}
 use Rattle.bf_base.specs.Lists.{with_before_from}
 use Rattle.bf_tree.specs.declared.history.Entry.{Entry}
-use Rattle.bf_sql.specs.Groups.{groups_in, groups_of}
+use Rattle.bf_sql.specs.Groups.{groups_in}
 use Rattle.bf_sql.specs.History.{is_whole_group, may_precede}
 use Rattle.bf_demo.specs.Replies.{transactions}
-use Rattle.bf_demo.specs.Script.{credits, demonstration, openings}
+use Rattle.bf_demo.specs.Script.{demonstration}
 use Rattle.bf_demo.proofs.Committing.{is_group}
 use Rattle.bf_demo.proofs.Grouping.{groups_of_credits, groups_of_openings, lone, triples}
 use Rattle.bf_demo.proofs.Phasing.{are_before, group_of, of_session}
@@ -160,7 +160,7 @@ module _ (n s : ℕ) where
           → are_among (groups_in (demonstration n) s) (map group_of (of_session s (e ∷ es))) ≡ true
       go true t wholes more =
           let here : list_any (is_group e.first e.last) (groups_in (demonstration n) s) ≡ true =
-              ap (λ k. list_any (is_group e.first e.last) (groups_in (demonstration n) k)) (sym (eqb-true e.session s t)) ∙ wholes.0 in
+          ap (λ k. list_any (is_group e.first e.last) (groups_in (demonstration n) k)) (sym (eqb-true e.session s t)) ∙ wholes.0 in
           rw (t, here) (more wholes.1)
       go false t wholes more = rw t (more wholes.1)
 
@@ -169,7 +169,7 @@ module _ (n s : ℕ) where
       → list_all (are_before n) (with_before_from [] h) ≡ true → Fits gs (map group_of (of_session s h))
   fits_session gs groups from h whole ok =
       let longs : (e : Entry) → e.session ≡ s → is_whole_group (demonstration n) e ≡ true → e.first ≤ e.last =
-          λ e same is. (from_on gs 1 (group_of e) from (sym (ap (λ (x : List Group). list_any (is_group e.first e.last) x) (ap (groups_in (demonstration n)) same ∙ groups)) ∙ is)).1 in
+      λ e same is. (from_on gs 1 (group_of e) from (sym (ap (λ (x : List Group). list_any (is_group e.first e.last) x) (ap (groups_in (demonstration n)) same ∙ groups)) ∙ is)).1 in
       fits_in gs (map group_of (of_session s h)) 1 0 from (stand_from longs [] 0 h (λ e same before. omega arith) whole ok)
       (subst (λ (x : List Group). are_among x (map group_of (of_session s h)) ≡ true) groups (all_among h whole))
 

@@ -1,5 +1,5 @@
 -- An UPDATE of one account adds its amount to one balance, and so to the sum of all.
-use Rattle.std.proofs.Common.{◌≡◌, ℕ, suc, zero, ◌+◌, ◌<◌, ◌≤◌, ◌^◌, ◌==◌, Bool, false, true, cond, List, [], ◌∷◌, ◌++◌, map, flat_map, length, pos, Some, refl, sym, ap, ◌∙◌, arith}
+use Rattle.std.proofs.Common.{◌≡◌, ℕ, suc, ◌+◌, ◌<◌, ◌≤◌, ◌^◌, ◌==◌, Bool, false, true, cond, List, [], ◌∷◌, ◌++◌, map, flat_map, length, pos, Some, refl, ap, ◌∙◌, arith}
 use Rattle.std.proofs.lemmas.Bool.{eqb-true}
 use Rattle.std.proofs.lemmas.Bool.Decides.{nat_tests}
 use Rattle.std.specs.Ordering.{int_cmp, is_eq}
@@ -15,10 +15,10 @@ use Rattle.bf_tree.specs.declared.reply.Refusal.{Refusal}
 use Rattle.bf_tree.specs.declared.reply.Reply.{Reply}
 use Rattle.bf_sql.specs.Database.{Database}
 use Rattle.bf_sql.specs.History.{run_group}
-use Rattle.bf_sql.specs.Meaning.{effect, executed}
+use Rattle.bf_sql.specs.Meaning.{executed}
 use Rattle.bf_sql.specs.Objections.{objections}
 use Rattle.bf_sql.specs.Queries.{changed, selected}
-use Rattle.bf_sql.specs.RowObjections.{change_objections, row_objections}
+use Rattle.bf_sql.specs.RowObjections.{change_objections}
 use Rattle.bf_sql.specs.Scopes.{admitted_by, place_of, read_in, scope_of, unqualified}
 use Rattle.bf_demo.specs.Script.{acct, bal, credit, id, number}
 use Rattle.bf_demo.proofs.States.{balances, executed_by, fits, parted, rows_of}

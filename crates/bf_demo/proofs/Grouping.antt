@@ -1,11 +1,11 @@
 -- The groups of the demonstration, and their statements.
-use Rattle.std.proofs.Common.{◌≡◌, ℕ, suc, zero, ◌+◌, ◌-◌, ◌*◌, ◌<◌, ◌≤◌, ◌==◌, Bool, false, true, ◌&&◌, List, [], ◌∷◌, ◌++◌, map, flat_map, take, drop, None, refl, sym, ap, subst, ◌∙◌, arith}
+use Rattle.std.proofs.Common.{◌≡◌, ℕ, suc, zero, ◌+◌, ◌-◌, ◌*◌, ◌<◌, ◌==◌, Bool, false, true, ◌&&◌, List, [], ◌∷◌, ◌++◌, map, flat_map, take, drop, None, refl, ap, ◌∙◌, arith}
 use Rattle.std.proofs.lemmas.Bool.{eqb-true, false≢true, and_parts}
 use Rattle.std.specs.List.{list_any, range_with_len}
 use Rattle.bf_base.specs.Lists.{part}
 use Rattle.bf_tree.specs.declared.statement.Statement.{Statement}
 use Rattle.bf_sql.specs.Groups.{groups_from}
-use Rattle.bf_demo.specs.Script.{credit, credits, new_table, opening, openings}
+use Rattle.bf_demo.specs.Script.{credit, opening, openings}
 
 -- groups of one statement, and of three
 abbrev pub lone : ℕ → ℕ → List (ℕ × ℕ)

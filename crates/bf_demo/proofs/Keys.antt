@@ -1,11 +1,11 @@
 -- Rows under keys that rise: a row with a greater key stands behind them, and no row has its key.
-use Rattle.std.proofs.Common.{◌≡◌, ℕ, suc, zero, ◌+◌, ◌-◌, ◌<◌, ◌≤◌, Bool, false, true, List, [], ◌∷◌, ◌++◌, map, length, refl, sym, ap, subst, ◌∙◌, arith, append_assoc, append-nil}
+use Rattle.std.proofs.Common.{◌≡◌, ℕ, suc, zero, ◌+◌, ◌<◌, ◌≤◌, false, List, [], ◌∷◌, ◌++◌, map, refl, sym, ap, subst, ◌∙◌, arith, append_assoc, append-nil}
 use Rattle.std.proofs.lemmas.Bool.Decides.{nat_tests}
-use Rattle.std.specs.List.{range_with_len, list_any}
-use Rattle.std.specs.declared.cmp.Ordering.TheVariants.{Less, Equal, Greater}
+use Rattle.std.specs.List.{range_with_len}
+use Rattle.std.specs.declared.cmp.Ordering.TheVariants.{Greater}
 use Rattle.bf_base.specs.declared.value.Value.{Value}
 use Rattle.bf_base.specs.Values.{key_cmp}
-use Rattle.bf_base.specs.Lists.{placed, with_placed, in_order, same_key, has}
+use Rattle.bf_base.specs.Lists.{placed, with_placed, same_key, has}
 use Rattle.bf_demo.specs.Script.{number}
 
 greater_key : (a i : ℕ) → i < a → key_cmp (number a ∷ []) (number i ∷ []) ≡ Greater

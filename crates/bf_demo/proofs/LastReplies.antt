@@ -1,5 +1,5 @@
 -- What the last session is told.
-use Rattle.std.proofs.Common.{◌≡◌, ℕ, suc, zero, ◌+◌, ◌-◌, ◌*◌, ◌%◌, ◌<◌, ◌≤◌, ◌^◌, ◌==◌, Bool, false, true, List, [], ◌∷◌, ◌++◌, map, filter, length, refl, sym, ap, subst, ◌∙◌, arith, append_assoc, append-nil}
+use Rattle.std.proofs.Common.{◌≡◌, ℕ, suc, zero, ◌+◌, ◌*◌, ◌%◌, ◌<◌, ◌≤◌, ◌^◌, ◌==◌, Bool, false, true, List, [], ◌∷◌, ◌++◌, map, length, refl, sym, ap, subst, ◌∙◌, arith, append_assoc, append-nil}
 use Rattle.std.proofs.lemmas.Bool.{eqb-true, and_parts}
 use Rattle.std.proofs.lemmas.List.Elements.{filter-append}
 use Rattle.std.proofs.lemmas.List.{map-append, length-map}
@@ -7,17 +7,16 @@ use Rattle.std.proofs.lemmas.List.Folds.{list_all-append}
 use Rattle.std.proofs.lemmas.List.FromFn.{length-map-range_with_len}
 use Rattle.std.specs.List.{list_all, range_with_len}
 use Rattle.bf_base.specs.declared.value.Value.{Value}
-use Rattle.bf_base.specs.Lists.{part}
 use Rattle.bf_tree.specs.declared.history.Entry.{Entry}
 use Rattle.bf_tree.specs.declared.reply.Reply.{Reply}
 use Rattle.bf_tree.specs.declared.script.Script.{Script}
 use Rattle.bf_tree.specs.declared.statement.Statement.{Statement}
 use Rattle.bf_sql.specs.Database.{Database, empty_database}
-use Rattle.bf_sql.specs.Groups.{groups_in, groups_of, statements_in, statements_of}
+use Rattle.bf_sql.specs.Groups.{groups_in, statements_in, statements_of}
 use Rattle.bf_sql.specs.History.{is_whole_group, replayed, replayed_behind, replies_to, run_group, told}
 use Rattle.bf_sql.specs.Meaning.{executed}
 use Rattle.bf_demo.specs.Replies.{IsReplayed, counted, last_replies, sum_of_owners}
-use Rattle.bf_demo.specs.Script.{acct, bal, credit, credits, demonstration, new_table, opening, openings, owner, split, sum_up, who}
+use Rattle.bf_demo.specs.Script.{acct, bal, demonstration, new_table, opening, owner, split, sum_up, who}
 use Rattle.bf_demo.proofs.Committing.{AreCommitted, IsCommitted, all_committed, back_committed, credits_of, front_committed}
 use Rattle.bf_demo.proofs.Crediting.{as_many, credited, credits_to, total, total_grows}
 use Rattle.bf_demo.proofs.Grouping.{an_opening, groups_of_credits, groups_of_openings, lone, triples}
@@ -57,7 +56,7 @@ opens_reach n (suc m) b sum few (e ∷ es) here done pairs =
     let is : statements_of (demonstration n) e ≡ opening (b + 1) ∷ [] = statements_at n 1 (b + 2) (b + 2) e session group.0 group.1 ∙ an_opening n b (omega arith) in
     let next : b + 2 + 1 ≡ (b + 1) + 2 = omega arith in
     let step = steps (demonstration n) (start_of b) (start_of (b + 1)) e done.0.number done.0.is
-        (λ c. ap (λ (ss : List Statement). (run_group c false (start_of b) ss).1) is ∙ ap (λ (a : Reply × Database). a.1) (opens_more c b (omega arith))) in
+    (λ c. ap (λ (ss : List Statement). (run_group c false (start_of b) ss).1) is ∙ ap (λ (a : Reply × Database). a.1) (opens_more c b (omega arith))) in
     joins (demonstration n) (start_of b) (start_of (b + 1)) (start_of n) (e ∷ []) es step
     (opens_reach n m (b + 1) (omega arith) few es both.1 done.1 (group.2 ∙ ap (λ k. lone k m) next))
 
@@ -71,7 +70,7 @@ first_reach n few (e ∷ es) here done pairs =
     let is : statements_of (demonstration n) e ≡ new_table ∷ [] = statements_at n 1 1 1 e session group.0 group.1 in
     let none : 0 + n ≡ n = omega arith in
     let step = steps (demonstration n) empty_database (opened []) e done.0.number done.0.is
-        (λ c. ap (λ (ss : List Statement). (run_group c false empty_database ss).1) is ∙ ap (λ (a : Reply × Database). a.1) (created c)) in
+    (λ c. ap (λ (ss : List Statement). (run_group c false empty_database ss).1) is ∙ ap (λ (a : Reply × Database). a.1) (created c)) in
     joins (demonstration n) empty_database (start_of 0) (start_of n) (e ∷ []) es step (opens_reach n n 0 none few es both.1 done.1 group.2)
 
 abbrev split_of : ℕ → Database
@@ -112,7 +111,7 @@ credits_reach n others (e ∷ es) xs whole here done size small =
     let grown : total more ≡ total xs + weight e = total_grows (weight e) at 1 xs low within in
     let many : length more ≡ length xs = as_many (weight e) at 1 xs in
     let step = steps (demonstration n) (parted (rows_of 1 xs) others) (parted (rows_of 1 more) others) e done.0.number done.0.is
-        (λ c. ap (λ (ss : List Statement). (run_group c false (parted (rows_of 1 xs) others) ss).1) found.3 ∙ credits_to c (weight e) at xs others (omega arith)) in
+    (λ c. ap (λ (ss : List Statement). (run_group c false (parted (rows_of 1 xs) others) ss).1) found.3 ∙ credits_to c (weight e) at xs others (omega arith)) in
     let rest = credits_reach n others es more wholes.1 both.1 done.1 (many ∙ size) (omega arith) in
     let later = rest.sum in
     record {
@@ -164,17 +163,17 @@ last_told n some few transcripts k ys (d ∷ e ∷ []) r done pairs size sum rep
     let q : Reply = counted (length ys) (total ys) in
     let s : Reply = counted (length (remainders (16 * n))) (total (remainders (16 * n))) in
     let got : (replayed_behind k (demonstration n) db (d ∷ e ∷ [])).0 ≡ (q ∷ []) ∷ (s ∷ []) ∷ [] =
-        two_replies (demonstration n) k db d e (sum_up acct bal) (sum_up who owner) q s done.0 done.1.0
-        (statements_at n 7 1 1 d first one.0 one.1) (statements_at n 7 2 2 e second other.0 other.1)
-        (λ c. some_balances ys (rows_of 1 (remainders (16 * n))) (omega arith) (omega arith) c)
-        (λ c. some_owners (remainders (16 * n)) (rows_of 1 ys) (omega arith) (omega arith) c) in
+    two_replies (demonstration n) k db d e (sum_up acct bal) (sum_up who owner) q s done.0 done.1.0
+    (statements_at n 7 1 1 d first one.0 one.1) (statements_at n 7 2 2 e second other.0 other.1)
+    (λ c. some_balances ys (rows_of 1 (remainders (16 * n))) (omega arith) (omega arith) c)
+    (λ c. some_owners (remainders (16 * n)) (rows_of 1 ys) (omega arith) (omega arith) c) in
     let all : told transcripts d ∷ told transcripts e ∷ [] ≡ (q ∷ []) ∷ (s ∷ []) ∷ [] = replies ∙ got in
     let told_first : told transcripts d ≡ q ∷ [] = cc in
     let told_second : told transcripts e ≡ s ∷ [] = cc in
     let at_first : told transcripts d ≡ replies_to transcripts 7 (1, 1) =
-        ap (λ i. replies_to transcripts i (d.first, d.last)) first ∙ (ap (λ i. replies_to transcripts 7 (i, d.last)) one.0 ∙ ap (λ i. replies_to transcripts 7 (1, i)) one.1) in
+    ap (λ i. replies_to transcripts i (d.first, d.last)) first ∙ (ap (λ i. replies_to transcripts 7 (i, d.last)) one.0 ∙ ap (λ i. replies_to transcripts 7 (1, i)) one.1) in
     let at_second : told transcripts e ≡ replies_to transcripts 7 (2, 2) =
-        ap (λ i. replies_to transcripts i (e.first, e.last)) second ∙ (ap (λ i. replies_to transcripts 7 (i, e.last)) other.0 ∙ ap (λ i. replies_to transcripts 7 (2, i)) other.1) in
+    ap (λ i. replies_to transcripts i (e.first, e.last)) second ∙ (ap (λ i. replies_to transcripts 7 (i, e.last)) other.0 ∙ ap (λ i. replies_to transcripts 7 (2, i)) other.1) in
     ap (λ (rs : List Reply). rs ++ replies_to transcripts 7 (2, 2)) (sym at_first ∙ told_first)
     ∙ (ap (λ (rs : List Reply). (q ∷ []) ++ rs) (sym at_second ∙ told_second)
     ∙ (ap (λ (a : ℕ). counted a (total ys) ∷ s ∷ []) size
@@ -232,25 +231,25 @@ module _ (n : ℕ) (some : 1 ≤ n) (few : n ≤ 65535) (transcripts : List (Lis
   first_groups : map group_of a ≡ lone 1 (suc n)
   first_groups =
       let e : of_session 1 history ≡ a =
-          parts 1 ∙ rw (all_of_phase n 1 1 (only_first n) a one.here, none_of_phase n 2 1 b two.here refl, none_of_phase n 3 1 c three.here refl, none_later n 4 1 z three.later (omega arith)) (append-nil a) in
+      parts 1 ∙ rw (all_of_phase n 1 1 (only_first n) a one.here, none_of_phase n 2 1 b two.here refl, none_of_phase n 3 1 c three.here refl, none_later n 4 1 z three.later (omega arith)) (append-nil a) in
       sym (ap (map group_of) e) ∙ (groups_of_session 1 ∙ ap (λ (gs : List (ℕ × ℕ)). (1, 1) ∷ gs) (groups_of_openings n 2 1))
 
   second_groups : map group_of b ≡ lone 1 1
   second_groups =
       let e : of_session 2 history ≡ b =
-          parts 2 ∙ rw (none_of_phase n 1 2 a one.here refl, all_of_phase n 2 2 (only_second n) b two.here, none_of_phase n 3 2 c three.here refl, none_later n 4 2 z three.later (omega arith)) (append-nil b) in
+      parts 2 ∙ rw (none_of_phase n 1 2 a one.here refl, all_of_phase n 2 2 (only_second n) b two.here, none_of_phase n 3 2 c three.here refl, none_later n 4 2 z three.later (omega arith)) (append-nil b) in
       sym (ap (map group_of) e) ∙ groups_of_session 2
 
   last_groups : map group_of z ≡ lone 1 2
   last_groups =
       let e : of_session 7 history ≡ z =
-          parts 7 ∙ rw (none_of_phase n 1 7 a one.here refl, none_of_phase n 2 7 b two.here refl, none_of_phase n 3 7 c three.here refl, all_later n 4 7 (only_last n) 4 (omega arith) z three.later) refl in
+      parts 7 ∙ rw (none_of_phase n 1 7 a one.here refl, none_of_phase n 2 7 b two.here refl, none_of_phase n 3 7 c three.here refl, all_later n 4 7 (only_last n) 4 (omega arith) z three.later) refl in
       sym (ap (map group_of) e) ∙ groups_of_session 7
 
   many_of : (s : ℕ) → phase_of n s ≡ 3 → (phase_of n s == 1) ≡ false → (phase_of n s == 2) ≡ false → groups_in script s ≡ triples 1 n → length (of_session s c) ≡ n
   many_of s third first second groups =
       let e : of_session s history ≡ of_session s c =
-          parts s ∙ rw (none_of_phase n 1 s a one.here first, none_of_phase n 2 s b two.here second, none_later n 4 s z three.later (omega arith)) (append-nil (of_session s c)) in
+      parts s ∙ rw (none_of_phase n 1 s a one.here first, none_of_phase n 2 s b two.here second, none_later n 4 s z three.later (omega arith)) (append-nil (of_session s c)) in
       sym (length-map (of_session s c) group_of) ∙ (ap length (sym (ap (map group_of) e) ∙ (groups_of_session s ∙ groups)) ∙ length_of_triples n 1)
 
   credits_weigh : total (map weight c) ≡ 10 * n
@@ -305,9 +304,9 @@ module _ (n : ℕ) (some : 1 ≤ n) (few : n ≤ 65535) (transcripts : List (Lis
       let goes = reached 0 z in
       let before : List Entry = a ++ (b ++ c) in
       let replies : map (told transcripts) (before ++ z) ≡ (replayed script empty_database (before ++ z)).0 =
-          subst (λ (es : List Entry). map (told transcripts) es ≡ (replayed script empty_database es).0) regrouped did.replies in
+      subst (λ (es : List Entry). map (told transcripts) es ≡ (replayed script empty_database es).0) regrouped did.replies in
       let both : map (told transcripts) before ++ map (told transcripts) z ≡ goes.front ++ (replayed_behind goes.count script shown z).0 =
-          sym (map-append (told transcripts) before z) ∙ (replies ∙ goes.goes) in
+      sym (map-append (told transcripts) before z) ∙ (replies ∙ goes.goes) in
       let long : length (map (told transcripts) before) ≡ length goes.front = length-map before (told transcripts) ∙ sym goes.as_long in
       let size : length credit_all.ys ≡ 16 * n = credit_all.same ∙ sized in
       let sum = credit_all.sum in

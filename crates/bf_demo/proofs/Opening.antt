@@ -1,5 +1,5 @@
 -- An INSERT of accounts with numbers above those that are there.
-use Rattle.std.proofs.Common.{◌≡◌, ℕ, suc, zero, ◌+◌, ◌-◌, ◌*◌, ◌%◌, ◌<◌, ◌≤◌, ◌^◌, Bool, false, true, List, [], ◌∷◌, ◌++◌, map, flat_map, length, refl, sym, ap, subst, ◌∙◌, arith, append_assoc, append-nil}
+use Rattle.std.proofs.Common.{◌≡◌, ℕ, suc, zero, ◌+◌, ◌-◌, ◌*◌, ◌%◌, ◌<◌, ◌≤◌, ◌^◌, Bool, false, List, [], ◌∷◌, ◌++◌, map, flat_map, length, refl, sym, ap, subst, ◌∙◌, arith, append_assoc, append-nil}
 use Rattle.std.proofs.lemmas.List.{map-append}
 use Rattle.std.proofs.lemmas.List.FromFn.{length-map-range_with_len}
 use Rattle.std.specs.List.{range_with_len}
@@ -33,7 +33,7 @@ rows_pass (suc k) a rows seen h below =
     let fit = row_fits a (omega arith) in
     let free = not_taken a (rows ++ seen) below in
     let more = rows_pass k (a + 1) rows (seen ++ account a ∷ []) (omega arith)
-        (subst (AllBelow (key_of three) (a + 1)) (append_assoc rows seen (account a ∷ [])) (below_push a (account a) refl below)) in
+    (subst (AllBelow (key_of three) (a + 1)) (append_assoc rows seen (account a ∷ [])) (below_push a (account a) refl below)) in
     rw (fit, free, more) refl
 
 inserted : (c k a : ℕ) (rows : List (List Value)) → a + k < 2 ^ 62 → AllBelow (key_of three) a rows

@@ -1,5 +1,5 @@
 -- The databases that the demonstration goes through, and a statement that nothing stands in the way of.
-use Rattle.std.proofs.Common.{◌≡◌, ℕ, ◌+◌, ◌<◌, ◌≤◌, ◌^◌, Bool, false, true, List, [], ◌∷◌, ◌++◌, map, pos, refl, ap, arith, le-leb}
+use Rattle.std.proofs.Common.{◌≡◌, ℕ, ◌+◌, ◌<◌, ◌^◌, Bool, false, true, List, [], ◌∷◌, map, pos, refl, arith, le-leb}
 use Rattle.std.specs.List.{range_with_len}
 use Rattle.bf_base.specs.declared.value.Value.{Value}
 use Rattle.bf_base.specs.declared.table.Admit.TheVariants as admits

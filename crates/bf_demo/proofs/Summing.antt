@@ -1,5 +1,5 @@
 -- What the two SELECTs are told.
-use Rattle.std.proofs.Common.{◌≡◌, ℕ, suc, zero, ◌+◌, ◌*◌, ◌/◌, ◌%◌, ◌<◌, ◌≤◌, ◌^◌, ◌==◌, Bool, false, true, not, List, [], ◌∷◌, ◌++◌, map, flat_map, filter, fold, length, pos, ℤ, ◌+ℤ◌, Some, None, refl, sym, ap, subst, ◌∙◌, arith}
+use Rattle.std.proofs.Common.{◌≡◌, ℕ, suc, zero, ◌+◌, ◌*◌, ◌/◌, ◌%◌, ◌<◌, ◌^◌, ◌==◌, Bool, false, true, not, List, [], ◌∷◌, ◌++◌, map, flat_map, filter, fold, length, pos, ℤ, ◌+ℤ◌, refl, sym, ap, subst, ◌∙◌, arith}
 use Rattle.std.proofs.lemmas.Bool.{eqb-true}
 use Rattle.std.proofs.lemmas.Bool.Decides.{nat_tests}
 use Rattle.std.proofs.lemmas.List.FromFn.{map-range_with_len_more}
@@ -17,16 +17,12 @@ use Rattle.bf_tree.specs.declared.reply.Cell.{Cell}
 use Rattle.bf_tree.specs.declared.reply.Cell.TheVariants as cells
 use Rattle.bf_tree.specs.declared.reply.Refusal.{Refusal}
 use Rattle.bf_tree.specs.declared.reply.Refusal.TheVariants.{OutOfRange}
-use Rattle.bf_tree.specs.declared.reply.Reply.{Reply}
 use Rattle.bf_tree.specs.declared.reply.Reply.TheVariants as reply
 use Rattle.bf_tree.specs.Evaluation.{number_of}
-use Rattle.bf_tree.specs.Totals.{exact_sum, total_of, values_of, or_null, sum_of}
+use Rattle.bf_tree.specs.Totals.{exact_sum, or_null, sum_of}
 use Rattle.bf_tree.specs.Trees.{Expr, column}
 use Rattle.bf_tree.specs.ValueObjections.{answer_objections}
-use Rattle.bf_sql.specs.Database.{Database}
-use Rattle.bf_sql.specs.Meaning.{effect, executed}
-use Rattle.bf_sql.specs.Objections.{objections}
-use Rattle.bf_sql.specs.Queries.{selected}
+use Rattle.bf_sql.specs.Meaning.{executed}
 use Rattle.bf_sql.specs.RowObjections.{row_objections}
 use Rattle.bf_sql.specs.Scopes.{read_in, scope_of, unqualified}
 use Rattle.bf_demo.specs.Replies.{counted, sum_of_owners, triangle}

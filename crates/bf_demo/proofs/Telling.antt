@@ -1,5 +1,5 @@
 -- The replies to a session of two statements, all of which are answered.
-use Rattle.std.proofs.Common.{◌≡◌, ℕ, List, [], ◌∷◌, ◌++◌, length, map, refl, sym, ◌∙◌, arith}
+use Rattle.std.proofs.Common.{◌≡◌, ℕ, List, [], ◌∷◌, ◌++◌, length, refl, sym, ◌∙◌, arith}
 use Rattle.std.specs.Prelude.{slice_index_or}
 use Rattle.bf_base.specs.Lists.{part}
 use Rattle.bf_tree.specs.Answered.{IsAllAnswered}

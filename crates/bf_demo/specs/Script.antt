@@ -8,7 +8,6 @@ use Rattle.bf_tree.specs.Trees.{column, compared, literal, plus}
 use Rattle.bf_tree.specs.declared.compare.Compare.TheVariants.{Equal}
 use Rattle.bf_tree.specs.declared.items.Aggregate.TheVariants.{Count, Sum}
 use Rattle.bf_tree.specs.declared.items.Items.TheVariants.{Aggregates}
-use Rattle.bf_tree.specs.declared.migration.Item.{Item}
 use Rattle.bf_tree.specs.declared.migration.Item.TheVariants.{Column}
 use Rattle.bf_tree.specs.declared.migration.Target.{Target}
 use Rattle.bf_tree.specs.declared.script.Script.{Script}
