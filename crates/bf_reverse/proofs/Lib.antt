@@ -1,0 +1,11 @@
+pub mod Brought
+pub mod Cells
+pub mod Forward
+pub mod Joined
+pub mod Meant
+pub mod Pairing
+pub mod Regained
+pub mod Renewed
+pub mod Restoring
+pub mod Tables
+pub mod Unobjected

@@ -1,0 +1,106 @@
+//! A MIGRATE that is run and taken back.
+
+ghost use Rattle.std.specs.List.{AllByRecursion};
+ghost use Rattle.std.specs.Prelude.{◌≡◌, ◌++◌, [], ◌∷◌, IfOk, OnErr, OnOk, true};
+ghost use Rattle.bf_tree.specs.Limits.{IsNarrowMigrate};
+ghost use Rattle.bf_sql.specs.RowObjections.{first_oversize};
+ghost use Rattle.bf_eager.specs.Eager.{IsWholeGroup};
+ghost use Rattle.bf_reverse.specs.Reversals.{reversal_on};
+ghost use Rattle.bf_reverse.specs.Undone.{HasRun, ran_each, HasArms, HasCreatedIndexes, HasRunFront, IsUndoAnswer};
+
+use crate::reversal::{Reversal, unless_lossy};
+use bf_base::{MOST_ROWS, Memory, Name};
+use bf_eager::Eager;
+use bf_plan::plan;
+use bf_tree::{Migrate, Refusal, Reply, Statement};
+use std::alloc::Global;
+
+/// The refusal of the first of some tables of a database that has too many rows for a MIGRATE.
+///
+/// # Errors
+/// Where memory runs out.
+fn oversize(alloc: Global, database: &Eager, sources: &[Name]) -> Result<Option<Refusal>, Memory>
+    ensures { IfOk result (λ refusal. refusal ≡ first_oversize database.now.database sources.now) }
+{
+    for source in sources {
+        match database.rows(source) {
+            Some(rows) if rows > MOST_ROWS => {
+                return Ok(Some(Refusal::TooManyRows(source.copy(alloc)?, rows)));
+            }
+            _ => {}
+        }
+    }
+    Ok(None)
+}
+
+/// The way back from a MIGRATE on a database, of whose refusals one by its rows counts like one by its catalog.
+///
+/// # Errors
+/// Where memory runs out.
+pub(crate) fn reverse_on(
+    alloc: Global,
+    database: &Eager,
+    migrate: &Migrate,
+) -> Result<Reversal, Memory>
+    requires { IsNarrowMigrate migrate.now }
+    ensures { IfOk result (λ reversal. reversal ≡ reversal_on database.now.database migrate.now) }
+{
+    match plan(alloc, migrate, database.catalog())? {
+        Ok(plan) => match oversize(alloc, database, plan.sources.as_slice())? {
+            Some(refusal) => Ok(Reversal::Refused(refusal)),
+            None => unless_lossy(alloc, &plan, database.catalog()),
+        },
+        Err(refusal) => Ok(Reversal::Refused(refusal)),
+    }
+}
+
+/// Runs statements one after the other, each as a group of its own, and adds their replies.
+///
+/// # Errors
+/// As `Eager::run_entry` says. Those before that one have run then.
+fn run_each(
+    database: &mut Eager,
+    statements: &[Statement],
+    replies: &mut Vec<Reply>,
+) -> Result<(), Memory>
+    requires { AllByRecursion (λ s. IsWholeGroup true (s ∷ [])) statements.now }
+    ensures ok { OnOk result ((replies.new.items, database.new)
+        ≡ (replies.old.items ++ (ran_each database.old statements.now).0, (ran_each database.old statements.now).1)) }
+    ensures err { OnErr result (HasRun database.old statements.now database.new) }
+{
+    for index in 0..statements.len() {
+        let mut more = database.run_entry(&statements[index..index + 1], true)?;
+        replies.append(&mut more)?;
+    }
+    Ok(())
+}
+
+/// Runs a MIGRATE and then takes it back, and answers the replies to it and to each statement of its inverse. The
+/// database is the former one then, but for the numbers of its schema changes and of its commits. `None` comes where the
+/// MIGRATE is refused, or an old table is not whole in the new ones; nothing is run then.
+///
+/// It costs what the MIGRATE and its inverse cost.
+///
+/// # Errors
+/// Where memory runs out, or `Eager::run_entry` has such an error. A front of the statements has run then.
+pub fn undo(
+    alloc: Global,
+    database: &mut Eager,
+    migrate: &Migrate,
+) -> Result<Option<Vec<Reply>>, Memory>
+    requires limits { IsNarrowMigrate migrate.now }
+    requires arms { HasArms migrate.now }
+    requires indexes { HasCreatedIndexes database.old.database }
+    ensures answer { IfOk result
+        (λ replies. IsUndoAnswer database.old migrate.now replies database.new) }
+    ensures err { OnErr result (HasRunFront database.old migrate.now database.new) }
+{
+    let Reversal::Inverse(inverse) = reverse_on(alloc, database, migrate)? else {
+        return Ok(None);
+    };
+    let first = vec![in alloc; Statement::Migrate(migrate.copy(alloc)?)]?;
+    let mut replies = Vec::with_capacity(alloc, inverse.len() + 1)?;
+    run_each(database, first.as_slice(), &mut replies)?;
+    run_each(database, inverse.as_slice(), &mut replies)?;
+    Ok(Some(replies))
+}
