@@ -1,11 +1,5 @@
-pub mod Brought
-pub mod Cells
-pub mod Forward
-pub mod Joined
-pub mod Meant
-pub mod Pairing
-pub mod Regained
-pub mod Renewed
-pub mod Restoring
-pub mod Tables
-pub mod Unobjected
+pub mod Catalogued
+pub mod Found
+pub mod Placing
+pub mod RunEach
+pub mod Walks

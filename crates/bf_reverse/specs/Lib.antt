@@ -1,9 +1,2 @@
-pub mod Befores
-pub mod Copies
-pub mod Inverses
-pub mod Outcomes
 pub mod Planned
 pub mod Reversals
-pub mod Spellings
-pub mod Undone
-pub mod Wholes

@@ -15,10 +15,10 @@ use Rattle.bf_tree.specs.declared.statement.Statement.TheVariants as statement
 use Rattle.bf_sql.specs.Conditions.{all_there}
 use Rattle.bf_sql.specs.Database.{Database, table_at}
 use Rattle.bf_sql.specs.migrations.Targets.{item_name}
-use Rattle.bf_reverse.specs.Copies.{is_bare}
-use Rattle.bf_reverse.specs.Inverses.{index_back, target_back}
-use Rattle.bf_reverse.specs.Wholes.{are_whole, names_source}
-use Rattle.bf_reverse.specs.declared.copied.Copied.{Copied}
+use Rattle.bf_inverse.specs.Copies.{is_bare}
+use Rattle.bf_inverse.specs.Inverses.{index_back, target_back}
+use Rattle.bf_inverse.specs.Wholes.{are_whole, names_source}
+use Rattle.bf_inverse.specs.declared.copied.Copied.{Copied}
 use Rattle.bf_reverse.specs.declared.reversal.Reversal.{Reversal}
 use Rattle.bf_reverse.specs.declared.reversal.Reversal.TheVariants.{Inverse, Lossy}
 

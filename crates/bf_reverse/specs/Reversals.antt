@@ -7,8 +7,8 @@ use Rattle.bf_tree.specs.declared.statement.Statement.{Statement}
 use Rattle.bf_sql.specs.Database.{Database}
 use Rattle.bf_sql.specs.migrations.MigrationObjections.{migrate_objections}
 use Rattle.bf_eager.specs.Beginnings.{first_against}
-use Rattle.bf_reverse.specs.Inverses.{inverse_of}
-use Rattle.bf_reverse.specs.Wholes.{first_lossy}
+use Rattle.bf_inverse.specs.Inverses.{inverse_of}
+use Rattle.bf_inverse.specs.Wholes.{first_lossy}
 use Rattle.bf_reverse.specs.declared.reversal.Reversal.{Reversal}
 use Rattle.bf_reverse.specs.declared.reversal.Reversal.TheVariants.{Inverse, Refused, Lossy}
 

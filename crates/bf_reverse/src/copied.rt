@@ -2,23 +2,13 @@
 
 ghost use Rattle.std.specs.Prelude.{◌≡◌, IfOk};
 ghost use Rattle.bf_sql.specs.migrations.Targets.{item_name};
-ghost use Rattle.bf_reverse.specs.Copies.{is_bare};
+ghost use Rattle.bf_inverse.specs.Copies.{is_bare};
 ghost use Rattle.bf_reverse.specs.Planned.{columns_placed, copied_arm, copied_placed, plain_place};
 
 use bf_base::{Memory, Name, Sequence};
+use bf_inverse::Copied;
 use bf_tree::{Arm, Item, Node, PlacedArm, PlacedItem, Target};
 use std::alloc::Global;
-
-/// A target that copies columns of one old table, row by row.
-#[derive(Drop)]
-pub struct Copied {
-    /// The target's name.
-    pub name: Name,
-    /// The old table.
-    pub from: Name,
-    /// Each column of the target: its name, and the place of the old column, counted from 0.
-    pub columns: Sequence<(Name, u8)>,
-}
 
 /// The name of an item's column.
 fn name_of(item: &Item) -> &Name
@@ -56,16 +46,17 @@ fn is_bare(arm: &Arm) -> bool
 fn columns_of(
     alloc: Global,
     items: &[Item],
-    placed: &[PlacedItem],
+    places: &[PlacedItem],
 ) -> Result<Option<Sequence<(Name, u8)>>, Memory>
-    ensures { IfOk result (λ columns. columns ≡ columns_placed items.now placed.now) }
+    ensures { IfOk result (λ columns. columns ≡ columns_placed items.now places.now) }
 {
-    let mut columns = Vec::with_capacity(alloc, items.len())?;
-    for (item, placed) in items.iter().zip(placed) {
-        let Some(place) = place_of(placed) else {
+    let count = items.len().min(places.len());
+    let mut columns = Vec::with_capacity(alloc, count)?;
+    for index in 0..count {
+        let Some(place) = place_of(&places[index]) else {
             return Ok(None);
         };
-        columns.push((name_of(item).copy(alloc)?, place))?;
+        columns.push((name_of(&items[index]).copy(alloc)?, place))?;
     }
     Ok(Some(Sequence::of(columns)))
 }

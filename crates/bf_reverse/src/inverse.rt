@@ -2,13 +2,14 @@
 
 ghost use Rattle.std.specs.List.{list_all};
 ghost use Rattle.std.specs.Option.{option_copied, option_map};
-ghost use Rattle.std.specs.Prelude.{◌≡◌, ◌<◌, ◌==◌, IfOk, IsTrue, find, length, map};
+ghost use Rattle.std.specs.Prelude.{◌≡◌, ◌<◌, ◌≤◌, ◌==◌, IfOk, IsTrue, find, length, map};
+ghost use Rattle.bf_base.specs.Limits.{most_columns};
 ghost use Rattle.bf_sql.specs.Database.{is_within};
-ghost use Rattle.bf_reverse.specs.Inverses.{arm_back, first_ref, index_on, item_back, join_back, names_at, pair_back, target_back};
-ghost use Rattle.bf_reverse.specs.Wholes.{keep_all, refs_in, refs_of, stand_in_both};
+ghost use Rattle.bf_inverse.specs.Inverses.{arm_back, first_ref, index_on, item_back, join_back, names_at, pair_back, target_back};
+ghost use Rattle.bf_inverse.specs.Wholes.{keep_all, refs_in, refs_of, stand_in_both};
 
-use crate::copied::Copied;
 use bf_base::{Column, Memory, Name, Sequence, Table};
+use bf_inverse::Copied;
 use bf_tree::{Arm, IndexRule, Item, Join, RawExpr, RawNode, Ref, Statement, Target};
 use std::alloc::Global;
 
@@ -59,7 +60,8 @@ fn item_back(alloc: Global, copies: &[Copied], place: u8, old: &Column) -> Resul
 
 /// The columns of an old table.
 fn items_back(alloc: Global, table: &Table, copies: &[Copied]) -> Result<Vec<Item>, Memory>
-    requires { IsTrue (keep_all table.now copies.now) }
+    requires keep { IsTrue (keep_all table.now copies.now) }
+    requires narrow { length table.now.columns ≤ most_columns }
     ensures { IfOk result (λ items. items.items ≡ (arm_back table.now copies.now).items) }
 {
     let columns = table.columns.as_slice();
@@ -110,7 +112,8 @@ fn join_back(alloc: Global, table: &Table, copies: &[Copied]) -> Result<Option<J
 /// # Errors
 /// Where memory runs out.
 pub(crate) fn target_back(alloc: Global, table: &Table, copies: &[Copied]) -> Result<Target, Memory>
-    requires { IsTrue (keep_all table.now copies.now) }
+    requires keep { IsTrue (keep_all table.now copies.now) }
+    requires narrow { length table.now.columns ≤ most_columns }
     ensures { IfOk result (λ target. target ≡ target_back table.now copies.now) }
 {
     let items = items_back(alloc, table, copies)?;

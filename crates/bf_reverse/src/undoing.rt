@@ -1,12 +1,14 @@
 //! A MIGRATE that is run and taken back.
 
 ghost use Rattle.std.specs.List.{AllByRecursion};
-ghost use Rattle.std.specs.Prelude.{◌≡◌, ◌++◌, [], ◌∷◌, IfOk, OnErr, OnOk, true};
-ghost use Rattle.bf_tree.specs.Limits.{IsNarrowMigrate};
+ghost use Rattle.std.specs.Prelude.{◌≡◌, ◌++◌, [], ◌∷◌, IfOk, OnErr, OnOk, length, true};
+ghost use Rattle.bf_tree.specs.Limits.{HasNarrowTables, IsNarrowMigrate};
+ghost use Rattle.bf_sql.specs.Bound.{catalog_of};
+ghost use Rattle.bf_sql.specs.Database.{IsDatabase, table_rows};
 ghost use Rattle.bf_sql.specs.RowObjections.{first_oversize};
 ghost use Rattle.bf_eager.specs.Eager.{IsWholeGroup};
 ghost use Rattle.bf_reverse.specs.Reversals.{reversal_on};
-ghost use Rattle.bf_reverse.specs.Undone.{HasRun, ran_each, HasArms, HasCreatedIndexes, HasRunFront, IsUndoAnswer};
+ghost use Rattle.bf_inverse.specs.Undone.{HasRun, ran_each, HasArms, HasCreatedIndexes, HasRunFront, IsUndoAnswer};
 
 use crate::reversal::{Reversal, unless_lossy};
 use bf_base::{MOST_ROWS, Memory, Name};
@@ -14,6 +16,17 @@ use bf_eager::Eager;
 use bf_plan::plan;
 use bf_tree::{Migrate, Refusal, Reply, Statement};
 use std::alloc::Global;
+use std::slice;
+
+/// The number of rows of the table of a name, and 0 where there is none.
+fn row_count(database: &Eager, name: &Name) -> u32
+    ensures { result ≡ length (table_rows database.now.database name.now) }
+{
+    match database.rows(name) {
+        Some(rows) => rows,
+        None => 0,
+    }
+}
 
 /// The refusal of the first of some tables of a database that has too many rows for a MIGRATE.
 ///
@@ -22,28 +35,29 @@ use std::alloc::Global;
 fn oversize(alloc: Global, database: &Eager, sources: &[Name]) -> Result<Option<Refusal>, Memory>
     ensures { IfOk result (λ refusal. refusal ≡ first_oversize database.now.database sources.now) }
 {
-    for source in sources {
-        match database.rows(source) {
-            Some(rows) if rows > MOST_ROWS => {
-                return Ok(Some(Refusal::TooManyRows(source.copy(alloc)?, rows)));
-            }
-            _ => {}
+    for name in sources {
+        let count = row_count(database, name);
+        if count > MOST_ROWS {
+            return Ok(Some(Refusal::TooManyRows(name.copy(alloc)?, count)));
         }
     }
     Ok(None)
 }
 
-/// The way back from a MIGRATE on a database, of whose refusals one by its rows counts like one by its catalog.
+/// The way back from a MIGRATE on a database: as `reverse` in its catalog, where the rows have nothing against the MIGRATE
+/// either. Else the first refusal. No row is read.
 ///
 /// # Errors
 /// Where memory runs out.
-pub(crate) fn reverse_on(
+pub fn reverse_on(
     alloc: Global,
     database: &Eager,
     migrate: &Migrate,
 ) -> Result<Reversal, Memory>
     requires { IsNarrowMigrate migrate.now }
-    ensures { IfOk result (λ reversal. reversal ≡ reversal_on database.now.database migrate.now) }
+    ensures reversal { IfOk result (λ reversal. reversal ≡ reversal_on database.now.database migrate.now) }
+    ensures database { IsDatabase database.now.database }
+    ensures narrow { HasNarrowTables (catalog_of database.now.database) }
 {
     match plan(alloc, migrate, database.catalog())? {
         Ok(plan) => match oversize(alloc, database, plan.sources.as_slice())? {
@@ -68,8 +82,8 @@ fn run_each(
         ≡ (replies.old.items ++ (ran_each database.old statements.now).0, (ran_each database.old statements.now).1)) }
     ensures err { OnErr result (HasRun database.old statements.now database.new) }
 {
-    for index in 0..statements.len() {
-        let mut more = database.run_entry(&statements[index..index + 1], true)?;
+    for statement in statements {
+        let mut more = database.run_entry(slice::from_ref(statement), true)?;
         replies.append(&mut more)?;
     }
     Ok(())

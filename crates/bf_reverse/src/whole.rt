@@ -5,10 +5,11 @@ ghost use Rattle.bf_base.specs.Limits.{most_columns};
 ghost use Rattle.bf_base.specs.Lists.{has, same_name};
 ghost use Rattle.bf_sql.specs.migrations.Targets.{arm_sources};
 ghost use Rattle.bf_reverse.specs.Planned.{copies_planned};
-ghost use Rattle.bf_reverse.specs.Wholes.{keep_all, names_source, refs_in, refs_of, stands_once};
+ghost use Rattle.bf_inverse.specs.Wholes.{keep_all, names_source, refs_in, refs_of, stands_once};
 
-use crate::copied::{Copied, copied_of};
+use crate::copied::copied_of;
 use bf_base::{Memory, Name, Sequence, Table};
+use bf_inverse::Copied;
 use bf_tree::{Arm, Plan, Target};
 use std::alloc::Global;
 
@@ -91,10 +92,11 @@ pub(crate) fn copies_of(
     ensures { IfOk result (λ copies. copies ≡ copies_planned plan.now source.now) }
 {
     let targets = plan.migrate.targets.as_slice();
+    let arms = plan.arms.as_slice();
     let mut copies = Vec::new(alloc);
-    for (target, arms) in targets.iter().zip(plan.arms.as_slice()) {
-        if target_names(target, source) {
-            match copied_of(alloc, target, arms.as_slice())? {
+    for index in 0..targets.len().min(arms.len()) {
+        if target_names(&targets[index], source) {
+            match copied_of(alloc, &targets[index], arms[index].as_slice())? {
                 Some(copied) => copies.push(copied)?,
                 None => return Ok(None),
             }

@@ -9,7 +9,7 @@ use crate::narrow::Narrow;
 use crate::regained::expect_regained;
 use anyhow::{Context, bail};
 use bf_io::{MemorySink, MemorySource};
-use bf_reverse::run_reverse;
+use bf_reversing::run_reverse;
 use case_files::{Teller, first_word};
 use std::alloc::{AllocError, Global};
 

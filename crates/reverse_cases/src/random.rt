@@ -4,7 +4,7 @@ use crate::pen::Pen;
 use crate::regained::expect_regained;
 use anyhow::bail;
 use bf_io::{MemorySink, MemorySource};
-use bf_reverse::run_reverse;
+use bf_reversing::run_reverse;
 use std::alloc::{AllocError, Global};
 
 /// How many scripts are drawn.

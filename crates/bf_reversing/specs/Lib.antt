@@ -1,0 +1,3 @@
+pub mod Befores
+pub mod Outcomes
+pub mod Spellings
