@@ -1,17 +1,16 @@
 -- The catalog has nothing against a target that an inverse makes.
-use Rattle.std.proofs.Common.{◌≡◌, ℕ, zero, suc, ◌+◌, ◌<◌, Bool, true, false, not, ◌&&◌, ◌||◌, cond, List, [], ◌∷◌, ◌++◌, map, filter_map, flat_map, length, get_or, Option, Some, None, is_some, refl, sym, ap, ap₂, ◌∙◌, arith, zero-add, nat_eq, nat_lt, ◌==◌, if◌then◌else◌}
+use Rattle.std.proofs.Common.{◌≡◌, ℕ, ◌+◌, ◌<◌, Bool, true, false, not, ◌&&◌, ◌||◌, List, [], ◌∷◌, ◌++◌, map, flat_map, length, get_or, Option, Some, is_some, refl, sym, ap, ap₂, ◌∙◌, arith, zero-add, nat_lt, ◌==◌, if◌then◌else◌}
 use lib.Pointwise.{pointwise}
 use Rattle.std.specs.Cmp.{nat_eq_equiv}
-use Rattle.std.specs.List.{AllByRecursion, enumerate_from, list_all, list_any}
-use Rattle.std.proofs.lemmas.Bool.{and_from, and_parts, lt-ltb, not-true, or_parts}
+use Rattle.std.specs.List.{AllByRecursion, enumerate_from, list_all}
+use Rattle.std.proofs.lemmas.Bool.{and_from, and_parts, lt-ltb, not-true}
 use Rattle.std.proofs.lemmas.Bool.Decides.{nat_tests}
 use Rattle.std.proofs.lemmas.List.{get_or-append-add, get_or_append_left, get_or-map, length-append, length-map}
-use Rattle.bf_base.specs.Lists.{has, same_name, when, with_before, with_before_from}
+use Rattle.bf_base.specs.Lists.{has, same_name, when, with_before}
 use Rattle.bf_base.specs.Tables.{kind_admitted, same_kind}
 use Rattle.bf_base.specs.declared.table.Admit.{Admit}
 use Rattle.bf_base.specs.declared.table.Admit.TheVariants as admits
 use Rattle.bf_base.specs.declared.table.Column.{Column}
-use Rattle.bf_base.specs.declared.table.Kind.{Kind}
 use Rattle.bf_base.specs.declared.table.Table.{Table}
 use Rattle.bf_base.specs.declared.value.Value.{Value}
 use Rattle.bf_base.proofs.Apart.{are_apart}
@@ -22,13 +21,12 @@ use Rattle.bf_tree.specs.declared.migration.Target.{Target}
 use Rattle.bf_tree.specs.declared.plan.ArmKind.{ArmKind}
 use Rattle.bf_tree.specs.declared.plan.ArmKind.TheVariants.{ByFrom}
 use Rattle.bf_tree.specs.declared.raw.Ref.{Ref}
-use Rattle.bf_tree.specs.declared.reply.Refusal.{Refusal}
 use Rattle.bf_tree.specs.declared.reply.Refusal.TheVariants as refusal
-use Rattle.bf_sql.specs.Database.{Database, Stored, is_within, stored_at, table_at}
+use Rattle.bf_sql.specs.Database.{Database, Stored, is_within, stored_at}
 use Rattle.bf_sql.specs.Objections.{column_names}
-use Rattle.bf_sql.specs.Scopes.{Scope, admitted_by, kind_in, kind_objections, place_of, places_of, ref_objections, twice_objections}
-use Rattle.bf_sql.specs.migrations.MigrationObjections.{arm_objections, failing_objections, has_key, inherits_key, is_by_group, is_grouped_item, item_kinds, item_objections, keeps_apart, on_objections, source_objections, target_objections}
-use Rattle.bf_sql.specs.migrations.Targets.{arm_kind, arm_scope, arm_sources, equalities, from_key, is_total, item_name, key_items, names_of_join, width}
+use Rattle.bf_sql.specs.Scopes.{Scope, admitted_by, kind_in, kind_objections, place_of, ref_objections, twice_objections}
+use Rattle.bf_sql.specs.migrations.MigrationObjections.{arm_objections, has_key, inherits_key, is_by_group, is_grouped_item, item_kinds, item_objections, keeps_apart, on_objections, target_objections}
+use Rattle.bf_sql.specs.migrations.Targets.{arm_kind, arm_scope, is_total, item_name, key_items, width}
 use Rattle.bf_image.proofs.items.Names.{name-itself, name-symmetric}
 use Rattle.bf_inverse.specs.Inverses.{arm_back, first_ref, item_back, pair_back, target_back}
 use Rattle.bf_inverse.specs.Wholes.{keep_all, refs_in, refs_of}
@@ -37,12 +35,12 @@ use Rattle.bf_inverse.proofs.Brought.{key_in_both, key_in_first, own_members, st
 use Rattle.bf_inverse.proofs.Cells.{Column_copied}
 use Rattle.bf_inverse.proofs.Different.{all_new, before_from_apart}
 use Rattle.bf_inverse.proofs.Finding.{each_of_map, each_so}
-use Rattle.bf_inverse.proofs.Joined.{InBoth, Own_serves, meant_second, own_at, own_serves, place_copied}
+use Rattle.bf_inverse.proofs.Joined.{InBoth, Own_serves, own_at, own_serves}
 use Rattle.bf_inverse.proofs.Meant.{Own, in_scope, means_own, ref_to, same_own}
 use Rattle.bf_inverse.proofs.Regained.{all_own, no_own, own_of}
 use Rattle.bf_inverse.proofs.Renewed.{key_inherited}
 use Rattle.bf_inverse.proofs.Restoring.{StandIn, admit_at, kind_of_two, scopes_found, stored_copied, table_found}
-use Rattle.bf_inverse.proofs.Unobjected.{failing_none, items_fine, names_fine, none_of_all, ref_fine, same_kind_itself, same_kinds, sources_fine}
+use Rattle.bf_inverse.proofs.Unobjected.{failing_none, items_fine, names_fine, ref_fine, same_kind_itself, same_kinds, sources_fine}
 
 pub own-itself : (x : Own) → same_own x x ≡ true
 own-itself x = and_from (same_name x.1.0 x.1.0) (same_name x.0 x.0) (name-itself x.1.0) (name-itself x.0)

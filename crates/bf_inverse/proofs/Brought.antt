@@ -1,27 +1,26 @@
 -- A whole table that an inverse brings back out of its targets: the table and its rows.
-use Rattle.std.proofs.Common.{◌≡◌, ℕ, zero, suc, ◌+◌, ◌<◌, Bool, true, false, ◌&&◌, ◌||◌, cond, List, [], ◌∷◌, ◌++◌, map, filter_map, length, Option, refl, sym, ap, ap₂, ◌∙◌, arith, nat_eq, nat_lt, append_assoc, add-zero, zero-add, ◌==◌, if◌then◌else◌}
+use Rattle.std.proofs.Common.{◌≡◌, ℕ, zero, suc, ◌+◌, ◌<◌, Bool, true, false, ◌||◌, List, [], ◌∷◌, ◌++◌, map, length, refl, sym, ap, ap₂, ◌∙◌, arith, nat_eq, nat_lt, append_assoc, add-zero, zero-add, ◌==◌, if◌then◌else◌}
 use Rattle.std.specs.Cmp.{nat_eq_equiv}
 use Rattle.std.specs.List.{AllByRecursion, list_all, list_any, range_with_len}
 use Rattle.std.proofs.lemmas.Bool.{and_parts, eqb-true, or_left, or_right, ltb-true}
 use Rattle.std.proofs.lemmas.List.{length-append}
 use Rattle.std.proofs.lemmas.List.Folds.{list_any-append}
-use Rattle.bf_base.specs.Lists.{has, in_order, rises}
+use Rattle.bf_base.specs.Lists.{has, rises}
 use Rattle.bf_base.specs.Tables.{key_of}
 use Rattle.bf_base.specs.Values.{key_cmp, key_cmp_total}
 use Rattle.bf_base.specs.declared.table.Table.{Table}
 use Rattle.bf_base.specs.declared.value.Value.{Value}
 use Rattle.bf_base.proofs.Apart.{are_apart, in_order-rises}
-use Rattle.bf_tree.specs.declared.plan.ArmKind.TheVariants.{ByFrom}
 use Rattle.bf_sql.specs.Database.{Database, Stored, is_within, stored_in_order}
 use Rattle.bf_sql.specs.migrations.Images.{image_of}
 use Rattle.bf_sql.specs.migrations.Targets.{target_table}
 use Rattle.bf_inverse.specs.Inverses.{target_back}
 use Rattle.bf_inverse.specs.Wholes.{keep_all, refs_in, refs_of, stands_once}
 use Rattle.bf_inverse.specs.declared.copied.Copied.{Copied}
-use Rattle.bf_inverse.proofs.Joined.{InBoth, place_copied}
+use Rattle.bf_inverse.proofs.Joined.{InBoth}
 use Rattle.bf_inverse.proofs.Meant.{Own, same_own}
 use Rattle.bf_inverse.proofs.Regained.{all_own}
-use Rattle.bf_inverse.proofs.Renewed.{InFirst, table_back}
+use Rattle.bf_inverse.proofs.Renewed.{table_back}
 use Rattle.bf_inverse.proofs.Restoring.{IsLong, StandIn, image_of_one, image_of_two, kind_of_two, scopes_found, table_found}
 
 all_in_range : (p : ℕ → Bool) (a n k : ℕ) → list_all p (range_with_len a n) ≡ true → k < n → p (a + k) ≡ true

@@ -1,13 +1,12 @@
 -- Rows out of cells: what copies of columns hold, and rows that are put together of them.
-use Rattle.std.proofs.Common.{◌≡◌, ℕ, zero, suc, ◌+◌, ◌<◌, Bool, true, false, ◌&&◌, cond, List, [], ◌∷◌, ◌++◌, map, length, get_or, refl, sym, ap, ap₂, ◌∙◌, arith, add-zero, is_eq}
+use Rattle.std.proofs.Common.{◌≡◌, ℕ, suc, ◌+◌, ◌<◌, List, [], ◌∷◌, ◌++◌, map, length, get_or, refl, sym, ap, ap₂, ◌∙◌, arith, add-zero, is_eq}
 use Rattle.std.specs.List.{list_all, enumerate_from}
-use Rattle.std.specs.Ordering.{eq_by_cmp}
 use Rattle.std.specs.declared.cmp.Ordering.{Ordering}
 use Rattle.std.specs.declared.cmp.Ordering.TheVariants.{Less, Equal, Greater}
-use Rattle.std.proofs.lemmas.List.{get_or-map, get_or_append_left, get_or-append-add, length-map}
+use Rattle.std.proofs.lemmas.List.{get_or-map, get_or_append_left, get_or-append-add}
 use Rattle.bf_base.specs.Lists.{same_key}
 use Rattle.bf_base.specs.Tables.{cell, cells}
-use Rattle.bf_base.specs.Values.{key_cmp, value_cmp}
+use Rattle.bf_base.specs.Values.{value_cmp}
 use Rattle.bf_base.specs.declared.value.Value.{Value}
 
 -- a column of a target, and the row that its columns copy

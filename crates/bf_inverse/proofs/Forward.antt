@@ -1,13 +1,13 @@
 -- A target that copies columns of an old table: the table that it becomes, and its image.
-use Rattle.std.proofs.Common.{◌≡◌, ℕ, zero, suc, ◌+◌, ◌<◌, Bool, true, false, not, ◌&&◌, cond, List, [], ◌∷◌, ◌++◌, map, filter, filter_map, flat_map, length, get_or, slice_index_or, take, drop, Option, Some, None, unwrap_or, is_some, refl, sym, ap, ap₂, subst, ◌∙◌, arith, add-zero, zero-add, append-nil, position, nat_eq}
-use Rattle.std.specs.List.{AllByRecursion, enumerate_from, position_from, reduce}
+use Rattle.std.proofs.Common.{◌≡◌, ℕ, zero, suc, ◌+◌, ◌<◌, Bool, true, false, not, ◌&&◌, cond, List, [], ◌∷◌, ◌++◌, map, filter_map, length, get_or, drop, Option, Some, None, unwrap_or, is_some, refl, sym, ap, ap₂, subst, ◌∙◌, arith, add-zero, zero-add, append-nil, position, nat_eq}
+use Rattle.std.specs.List.{AllByRecursion, enumerate_from, position_from}
 use Rattle.std.specs.Option.{option_eq, option_map, option_and_then}
-use Rattle.std.proofs.lemmas.Bool.{and_parts, false≢true, not-true, eqb-true}
+use Rattle.std.proofs.lemmas.Bool.{and_parts, false≢true, eqb-true}
 use Rattle.std.proofs.lemmas.Iterator.Adapters.{position_from-zero}
-use Rattle.std.proofs.lemmas.List.{get_or-map, length-map, map-append}
+use Rattle.std.proofs.lemmas.List.{length-map}
 use Rattle.bf_base.specs.Tables.{cell, cells, key_of}
 use Rattle.bf_base.specs.Values.{key_cmp, key_cmp_total}
-use Rattle.bf_base.specs.Lists.{in_order, rises}
+use Rattle.bf_base.specs.Lists.{rises}
 use Rattle.bf_base.specs.declared.table.Admit.{Admit}
 use Rattle.bf_base.specs.declared.table.Admit.TheVariants as admits
 use Rattle.bf_base.specs.declared.table.Column.{Column}
@@ -15,7 +15,7 @@ use Rattle.bf_base.specs.declared.table.Table.{Table}
 use Rattle.bf_base.specs.declared.value.Value.{Value}
 use Rattle.bf_base.proofs.Apart.{in_order-rises}
 use Rattle.bf_base.proofs.Parts.{filter_always}
-use Rattle.bf_tree.specs.Trees.{Expr, literal, column, negated, plus, minus, times, joined}
+use Rattle.bf_tree.specs.Trees.{literal, column, negated, plus, minus, times, joined}
 use Rattle.bf_tree.specs.declared.migration.Arm.{Arm}
 use Rattle.bf_tree.specs.declared.migration.Item.{Item}
 use Rattle.bf_tree.specs.declared.migration.Item.TheVariants as item
@@ -26,8 +26,8 @@ use Rattle.bf_sql.specs.Database.{Database, Stored, stored_in_order, table_at, t
 use Rattle.bf_sql.specs.Scopes.{Scope, admitted_by, place_of, read_in, scope_of}
 use Rattle.bf_sql.specs.migrations.Extents.{admit_of_extent}
 use Rattle.bf_sql.specs.migrations.Images.{arm_rows, image_of, item_over}
-use Rattle.bf_sql.specs.migrations.Targets.{arm_scope, column_admit, either_admit, extent_of_item, item_admit, item_name, item_places, plain_of, plain_ref, target_table}
-use Rattle.bf_inverse.specs.Copies.{column_copied, columns_copied, copied_by, copied_of, is_bare}
+use Rattle.bf_sql.specs.migrations.Targets.{arm_scope, column_admit, either_admit, extent_of_item, item_admit, item_name, item_places, plain_ref, target_table}
+use Rattle.bf_inverse.specs.Copies.{column_copied, copied_by, copied_of, is_bare}
 use Rattle.bf_inverse.specs.Wholes.{refs_in}
 use Rattle.bf_inverse.specs.declared.copied.Copied.{Copied}
 use Rattle.bf_inverse.proofs.Cells.{Column_copied, cell-copied, copied_row}

@@ -1,5 +1,5 @@
 -- Two targets of an old table, joined on the copies of its key: each row of the one meets that of the same old row alone.
-use Rattle.std.proofs.Common.{◌≡◌, ℕ, zero, suc, ◌+◌, ◌<◌, Bool, true, false, ◌&&◌, cond, List, [], ◌∷◌, ◌++◌, map, filter, flat_map, length, get_or, Option, Some, None, refl, sym, ap, ap₂, ◌∙◌, arith, is_eq, append-nil, zero-add, position, nat_eq, eqb}
+use Rattle.std.proofs.Common.{◌≡◌, ℕ, ◌+◌, ◌<◌, Bool, true, ◌&&◌, cond, List, [], ◌∷◌, ◌++◌, map, filter, flat_map, length, get_or, Option, Some, refl, sym, ap, ap₂, ◌∙◌, arith, is_eq, zero-add, position, nat_eq, eqb}
 use Rattle.std.specs.Cmp.{nat_eq_equiv}
 use Rattle.std.specs.List.{AllByRecursion, list_all, position_from}
 use Rattle.std.proofs.lemmas.Bool.{eqb-true}

@@ -1,13 +1,13 @@
 -- What refs mean among columns of which no two have the same name in the same table.
-use Rattle.std.proofs.Common.{◌≡◌, ℕ, zero, suc, ◌+◌, ◌<◌, Bool, true, false, not, ◌&&◌, ◌||◌, cond, List, [], ◌∷◌, ◌++◌, map, filter, length, get_or, Option, Some, None, refl, sym, ap, ap₂, ◌∙◌, arith, add-zero, zero-add}
-use Rattle.std.specs.List.{list_any, list_all, enumerate_from, position_from}
-use Rattle.std.proofs.lemmas.Bool.{and_parts, or_parts, not-true, false≢true}
+use Rattle.std.proofs.Common.{◌≡◌, ℕ, zero, suc, ◌+◌, ◌<◌, Bool, true, false, ◌&&◌, cond, List, [], ◌∷◌, map, filter, length, get_or, Some, refl, sym, ap, ◌∙◌, arith, add-zero, zero-add}
+use Rattle.std.specs.List.{enumerate_from, position_from}
+use Rattle.std.proofs.lemmas.Bool.{and_parts, or_parts, not-true}
 use Rattle.bf_base.specs.Lists.{has, same_name}
 use Rattle.bf_base.specs.declared.table.Admit.{Admit}
 use Rattle.bf_base.specs.declared.table.Column.{Column}
 use Rattle.bf_base.proofs.Apart.{are_apart}
 use Rattle.bf_tree.specs.declared.raw.Ref.{Ref}
-use Rattle.bf_sql.specs.Scopes.{Scope, places_of, place_of}
+use Rattle.bf_sql.specs.Scopes.{places_of}
 use Rattle.bf_inverse.proofs.Cells.{Column_copied}
 
 -- the first item that passes a test, where one does

@@ -1,5 +1,5 @@
 -- Rows that are joined with themselves by their keys: each meets itself alone.
-use Rattle.std.proofs.Common.{◌≡◌, Bool, true, false, cond, List, [], ◌∷◌, ◌++◌, map, filter, flat_map, Ordering, Less, Greater, refl, sym, ap, ap₂, ◌∙◌, is_lt, is_eq, append_assoc, append-nil}
+use Rattle.std.proofs.Common.{◌≡◌, Bool, true, false, cond, List, [], ◌∷◌, ◌++◌, map, filter, flat_map, Ordering, Less, Greater, refl, sym, ap, ap₂, ◌∙◌, is_eq, append_assoc}
 use Rattle.std.specs.Cmp.{IsTotalOrder}
 use Rattle.std.specs.Ordering.{eq_by_cmp}
 use Rattle.std.proofs.lemmas.Bool.{and_parts}

@@ -1,15 +1,15 @@
 -- Rows that are regained: of a target, or of two that are joined, each old row comes back column by column.
-use Rattle.std.proofs.Common.{◌≡◌, ℕ, zero, suc, ◌+◌, ◌<◌, Bool, true, false, ◌&&◌, cond, List, [], ◌∷◌, ◌++◌, map, filter, flat_map, length, get_or, Option, Some, None, refl, sym, ap, ap₂, ◌∙◌, arith, zero-add, ◌==◌}
-use Rattle.std.specs.List.{list_all, enumerate_from}
+use Rattle.std.proofs.Common.{◌≡◌, ℕ, ◌<◌, Bool, true, false, cond, List, [], ◌∷◌, ◌++◌, map, filter, flat_map, length, get_or, Some, refl, sym, ap, ap₂, ◌∙◌, arith, zero-add, ◌==◌}
+use Rattle.std.specs.List.{enumerate_from}
 use Rattle.std.proofs.lemmas.Bool.{eqb-true}
 use Rattle.std.proofs.lemmas.List.{map-append, length-map, get_or-map}
 use Rattle.std.proofs.lemmas.List.Elements.{filter-append}
-use Rattle.bf_base.specs.Tables.{cell, cells}
+use Rattle.bf_base.specs.Tables.{cell}
 use Rattle.bf_base.specs.declared.table.Admit.{Admit}
 use Rattle.bf_base.specs.declared.value.Value.{Value}
 use Rattle.bf_base.proofs.Apart.{are_apart}
 use Rattle.bf_tree.specs.declared.raw.Ref.{Ref}
-use Rattle.bf_sql.specs.Scopes.{Scope, place_of, places_of, read_in, unqualified}
+use Rattle.bf_sql.specs.Scopes.{Scope, places_of, read_in, unqualified}
 use Rattle.bf_inverse.specs.Inverses.{first_ref}
 use Rattle.bf_inverse.specs.Wholes.{refs_in, refs_of}
 use Rattle.bf_inverse.specs.declared.copied.Copied.{Copied}

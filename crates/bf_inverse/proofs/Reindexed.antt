@@ -1,11 +1,11 @@
 -- Indexes that are created again: the rules that were.
-use Rattle.std.proofs.Common.{◌≡◌, ℕ, zero, suc, ◌+◌, ◌<◌, Bool, true, false, not, ◌&&◌, ◌||◌, cond, List, [], ◌∷◌, ◌++◌, map, filter, flat_map, length, get_or, slice_index_or, Option, Some, None, refl, sym, ap, ap₂, ◌∙◌, arith, append-nil, nat_eq, nat_lt, zero-add, inl, inr}
+use Rattle.std.proofs.Common.{◌≡◌, ℕ, suc, ◌+◌, ◌<◌, Bool, true, false, not, ◌&&◌, ◌||◌, cond, List, [], ◌∷◌, ◌++◌, map, filter, flat_map, length, get_or, slice_index_or, Option, refl, sym, ap, ap₂, ◌∙◌, arith, nat_eq, nat_lt, zero-add}
 use Rattle.std.specs.Cmp.{nat_eq_equiv}
-use Rattle.std.specs.List.{AllByRecursion, enumerate_from, list_all, list_any}
+use Rattle.std.specs.List.{AllByRecursion, enumerate_from, list_all}
 use Rattle.std.specs.Ordering.{eq_by_cmp}
-use Rattle.std.proofs.lemmas.Bool.{and_from, and_parts, cases_Bool, false≢true, ltb-true, not-true, not_from_false, or_from, or_parts}
+use Rattle.std.proofs.lemmas.Bool.{and_from, and_parts, ltb-true, not-true, not_from_false, or_from, or_parts}
 use Rattle.std.proofs.lemmas.List.{get_or-map, length-map}
-use Rattle.bf_base.specs.Lists.{has, in_order, name_cmp, placed, rises, same_name, when, with_before, with_before_from, with_placed}
+use Rattle.bf_base.specs.Lists.{has, name_cmp, placed, rises, same_name, when, with_before_from, with_placed}
 use Rattle.bf_base.specs.declared.table.Admit.TheVariants as admits
 use Rattle.bf_base.specs.declared.table.Column.{Column}
 use Rattle.bf_base.specs.declared.table.Table.{Table}
@@ -14,20 +14,18 @@ use Rattle.bf_base.proofs.Items.{SameItems, between, mapped, no_items, same_firs
 use Rattle.bf_base.proofs.Names.{name_cmp_total}
 use Rattle.bf_base.proofs.Order.{list_any-placed}
 use Rattle.bf_tree.specs.declared.catalog.IndexRule.{IndexRule}
-use Rattle.bf_tree.specs.declared.raw.Ref.{Ref}
 use Rattle.bf_tree.specs.declared.reply.Refusal.{Refusal}
 use Rattle.bf_tree.specs.declared.reply.Refusal.TheVariants as refusal
 use Rattle.bf_tree.specs.declared.reply.Reply.{Reply}
 use Rattle.bf_tree.specs.declared.reply.Reply.TheVariants as reply
 use Rattle.bf_tree.specs.declared.statement.Statement.{Statement}
-use Rattle.bf_sql.specs.Database.{Database, Stored, is_within, stored_at, table_at, table_rows}
+use Rattle.bf_sql.specs.Database.{Database, Stored, is_within, table_at}
 use Rattle.bf_sql.specs.Meaning.{effect, executed, index_of, named_places, next_number, unless_refused, with_index}
 use Rattle.bf_sql.specs.Objections.{column_names, names_objections, new_index_objections, objections, table_objections}
-use Rattle.bf_sql.specs.Scopes.{place_of, places_of, scope_of, twice_objections, unqualified}
-use Rattle.bf_eager.specs.Eager.{Ran}
+use Rattle.bf_sql.specs.Scopes.{places_of, scope_of, twice_objections, unqualified}
 use Rattle.bf_image.proofs.items.Names.{name-equal, name-itself, name-symmetric}
 use Rattle.bf_inverse.specs.Inverses.{index_back, names_at}
-use Rattle.bf_inverse.specs.Undone.{has_different_columns, is_refusal, ran_each}
+use Rattle.bf_inverse.specs.Undone.{has_different_columns, is_refusal, run_each}
 use Rattle.bf_inverse.proofs.Different.{all_new, apart_from_before, before_from_apart, is_new_behind}
 use Rattle.bf_inverse.proofs.Finding.{each_both, each_kept}
 use Rattle.bf_inverse.proofs.Meant.{own_place, places_mapped}
@@ -161,9 +159,8 @@ module _ (db : Database) where
 
   -- a statement that is run as a group of its own
   pub ran_one : (n : ℕ) (d next : Database) (s : Statement) (ss : List Statement) (r : Reply) → executed (n + 1) d false s ≡ (r, next)
-      → ran_each (record { commits = n; database = d }) (s ∷ ss) ≡ (r ∷ (ran_each (record { commits = n + 1; database = next }) ss).0, (ran_each (record { commits = n + 1; database = next }) ss).1)
-  ran_one n d next s ss r e =
-      ap (λ (a : Reply × Database). let out : List Reply × Ran = (a.0 ∷ (ran_each (record { commits = n + 1; database = a.1 }) ss).0, (ran_each (record { commits = n + 1; database = a.1 }) ss).1) in out) e
+      → run_each n d (s ∷ ss) ≡ (r ∷ (run_each (n + 1) next ss).0, (run_each (n + 1) next ss).1)
+  ran_one n d next s ss r e = ap (λ (a : Reply × Database). let out : List Reply × Database = (a.0 ∷ (run_each (n + 1) a.1 ss).0, (run_each (n + 1) a.1 ss).1) in out) e
 
   -- the indexes that are new among others
   abbrev pub AreNewAmong : List IndexRule → List IndexRule → Type 0
@@ -177,8 +174,8 @@ module _ (db : Database) where
 
   -- what is left behind indexes that are created again, and what is answered
   pub record AreCreated (n number : ℕ) (xs ys : List IndexRule) : Type 0 where
-    pub answered : list_all (λ (r : Reply). not (is_refusal r)) (ran_each (record { commits = n; database = with_indexes number xs }) (map (index_back db) ys)).0 ≡ true
-    pub left : (ran_each (record { commits = n; database = with_indexes number xs }) (map (index_back db) ys)).1.database ≡ with_indexes (number + length ys) (with_placed name_cmp index_name xs ys)
+    pub answered : list_all (λ (r : Reply). not (is_refusal r)) (run_each n (with_indexes number xs) (map (index_back db) ys)).0 ≡ true
+    pub left : (run_each n (with_indexes number xs) (map (index_back db) ys)).1 ≡ with_indexes (number + length ys) (with_placed name_cmp index_name xs ys)
 
   pub all_created : (n number : ℕ) (xs ys : List IndexRule) → AllByRecursion (IsFineIndex db) ys → AreNewAmong xs ys → are_apart same_index ys ≡ true → AreCreated n number xs ys
   all_created n number xs [] fine new apart = record { answered = refl; left = ap (λ (k : ℕ). with_indexes k xs) (counted number) }
@@ -191,8 +188,8 @@ module _ (db : Database) where
       all_created (n + 1) (number + 1) (placed name_cmp index_name xs rule) ys fine.1 (still_new xs rule ys (not-true (has same_index ys rule) parts.0) new.1) parts.1 in
       let one = ran_one n (with_indexes number xs) (with_indexes (number + 1) (placed name_cmp index_name xs rule)) (index_back db rule) (map (index_back db) ys) reply.Created (one_created (n + 1) number xs rule fine.0 new.0) in
       record {
-        answered = ap (λ (out : List Reply × Ran). list_all (λ (r : Reply). not (is_refusal r)) out.0) one ∙ rest.answered;
-        left = ap (λ (out : List Reply × Ran). out.1.database) one ∙ rest.left ∙ ap (λ (k : ℕ). with_indexes k (with_placed name_cmp index_name xs (rule ∷ ys))) (stepped number (length ys));
+        answered = ap (λ (out : List Reply × Database). list_all (λ (r : Reply). not (is_refusal r)) out.0) one ∙ rest.answered;
+        left = ap (λ (out : List Reply × Database). out.1) one ∙ rest.left ∙ ap (λ (k : ℕ). with_indexes k (with_placed name_cmp index_name xs (rule ∷ ys))) (stepped number (length ys));
       }
     where
       stepped : (k l : ℕ) → k + 1 + l ≡ k + suc l

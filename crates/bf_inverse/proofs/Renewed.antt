@@ -1,5 +1,5 @@
 -- The table that a target of an inverse becomes: the old one.
-use Rattle.std.proofs.Common.{◌≡◌, ℕ, zero, suc, ◌+◌, ◌<◌, Bool, true, false, ◌&&◌, cond, List, [], ◌∷◌, ◌++◌, map, filter_map, flat_map, length, get_or, slice_index_or, take, drop, Option, Some, None, unwrap_or, is_some, refl, sym, ap, ap₂, ◌∙◌, arith, add-zero, zero-add, append-nil, position, nat_eq, eqb, inl, inr}
+use Rattle.std.proofs.Common.{◌≡◌, ℕ, zero, suc, ◌+◌, ◌<◌, Bool, true, ◌&&◌, cond, List, [], ◌∷◌, ◌++◌, map, filter_map, length, get_or, take, drop, Option, Some, unwrap_or, is_some, refl, sym, ap, ap₂, ◌∙◌, arith, add-zero, zero-add, position, nat_eq, inl, inr}
 use Rattle.std.specs.Cmp.{nat_eq_equiv}
 use Rattle.std.specs.List.{AllByRecursion, enumerate_from, list_all, position_from, reduce}
 use Rattle.std.specs.Option.{option_eq, option_map}

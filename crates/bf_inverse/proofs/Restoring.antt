@@ -1,12 +1,12 @@
 -- The image of a target that an inverse makes: the rows of the old table.
-use Rattle.std.proofs.Common.{◌≡◌, ℕ, zero, suc, ◌+◌, ◌<◌, Bool, true, false, ◌&&◌, ◌||◌, cond, List, [], ◌∷◌, ◌++◌, map, filter, filter_map, flat_map, length, get_or, slice_index_or, Option, Some, None, option_map, unwrap_or, refl, sym, ap, ap₂, ◌∙◌, arith, is_eq, append-nil, nat_eq, nat_lt}
+use Rattle.std.proofs.Common.{◌≡◌, ℕ, ◌+◌, ◌<◌, Bool, true, false, ◌||◌, List, [], ◌∷◌, ◌++◌, map, filter, filter_map, flat_map, length, get_or, slice_index_or, Option, Some, option_map, unwrap_or, refl, sym, ap, ap₂, ◌∙◌, is_eq, append-nil, nat_eq}
 use Rattle.std.specs.Cmp.{nat_eq_equiv}
-use Rattle.std.specs.List.{AllByRecursion, list_all, list_any, enumerate_from}
+use Rattle.std.specs.List.{AllByRecursion, list_all, enumerate_from}
 use Rattle.std.proofs.lemmas.Bool.{and_parts, and_from, or_left, or_right}
 use Rattle.std.proofs.lemmas.List.{length-map, map-append}
 use Rattle.std.proofs.lemmas.List.Folds.{flat_map-map}
 use Rattle.bf_base.specs.Lists.{has, rises}
-use Rattle.bf_base.specs.Tables.{cell, key_of}
+use Rattle.bf_base.specs.Tables.{key_of}
 use Rattle.bf_base.specs.Values.{key_cmp, value_cmp}
 use Rattle.bf_base.specs.declared.table.Admit.{Admit}
 use Rattle.bf_base.specs.declared.table.Admit.TheVariants as admits
@@ -17,19 +17,19 @@ use Rattle.bf_base.proofs.Apart.{are_apart}
 use Rattle.bf_base.proofs.Parts.{filter_always}
 use Rattle.bf_tree.specs.declared.migration.Arm.{Arm}
 use Rattle.bf_tree.specs.declared.plan.ArmKind.{ArmKind}
-use Rattle.bf_tree.specs.declared.plan.ArmKind.TheVariants.{ByFrom, ByJoin, ByPair, ByGroup}
+use Rattle.bf_tree.specs.declared.plan.ArmKind.TheVariants.{ByFrom}
 use Rattle.bf_tree.specs.declared.raw.Ref.{Ref}
 use Rattle.bf_sql.specs.Database.{Database, Stored, no_table, stored_at, table_at, table_rows}
 use Rattle.bf_sql.specs.Scopes.{Scope, place_of, read_in, scope_of}
-use Rattle.bf_sql.specs.migrations.Images.{arm_rows, first_row, groups_by, image_of, is_equal_on, item_over, matches_of_join, rows_of_join, satisfying}
+use Rattle.bf_sql.specs.migrations.Images.{arm_rows, groups_by, image_of, is_equal_on, item_over, matches_of_join, satisfying}
 use Rattle.bf_sql.specs.migrations.Targets.{arm_kind, arm_scope, kind_by, on_places, join_key, from_key, width}
 use Rattle.bf_inverse.specs.Inverses.{arm_back, first_ref, item_back, pair_back, target_back}
 use Rattle.bf_inverse.specs.Wholes.{refs_in, refs_of}
 use Rattle.bf_inverse.specs.declared.copied.Copied.{Copied}
 use Rattle.bf_inverse.proofs.Cells.{Column_copied, copied_row}
-use Rattle.bf_inverse.proofs.Joined.{InBoth, Own_serves, joined_back, map-map, map_same, meant_second, own_serves, place_copied, scope_of_both}
+use Rattle.bf_inverse.proofs.Joined.{InBoth, Own_serves, joined_back, map-map, meant_second, own_serves, place_copied, scope_of_both}
 use Rattle.bf_inverse.proofs.Meant.{Own, in_scope, same_own}
-use Rattle.bf_inverse.proofs.Regained.{all_columns, all_own, own_of, row_back, scope_back}
+use Rattle.bf_inverse.proofs.Regained.{all_own, own_of, row_back}
 
 in_more : (x a b : ℕ) (on : List ℕ) → has nat_eq on x ≡ true → has nat_eq (a ∷ b ∷ on) x ≡ true
 in_more x a b on h = or_right (nat_eq x a) (nat_eq x b || has nat_eq on x) (or_right (nat_eq x b) (has nat_eq on x) h)

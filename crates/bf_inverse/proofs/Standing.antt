@@ -1,18 +1,17 @@
 -- Targets that copy stand behind the flip with the rows of their old table.
-use Rattle.std.proofs.Common.{◌≡◌, ℕ, zero, suc, ◌+◌, ◌<◌, Bool, true, false, not, ◌&&◌, ◌||◌, cond, List, [], ◌∷◌, ◌++◌, map, filter, flat_map, length, Option, Some, None, unwrap_or, refl, sym, ap, ap₂, subst, ◌∙◌, arith, ◌==◌, if◌then◌else◌}
-use Rattle.std.specs.List.{AllByRecursion, list_all, list_any}
+use Rattle.std.proofs.Common.{◌≡◌, ℕ, ◌<◌, Bool, true, false, not, ◌&&◌, ◌||◌, cond, List, [], ◌∷◌, map, filter, flat_map, length, Option, Some, None, unwrap_or, refl, sym, ap, ap₂, subst, ◌∙◌, ◌==◌}
+use Rattle.std.specs.List.{AllByRecursion, list_all}
 use Rattle.std.specs.Option.{option_and_then, option_map}
 use Rattle.std.proofs.lemmas.Bool.{and_parts, and_from, eqb-true, false≢true, not-true, not_from_false, or_from, or_parts}
 use Rattle.bf_base.specs.declared.table.Table.{Table}
 use Rattle.bf_base.specs.declared.value.Value.{Value}
-use Rattle.bf_base.specs.Lists.{has, name_cmp, rises, same_name, with_before_from}
+use Rattle.bf_base.specs.Lists.{has, rises, same_name, with_before_from}
 use Rattle.bf_base.specs.Tables.{key_of}
 use Rattle.bf_base.specs.Values.{key_cmp}
 use Rattle.bf_base.proofs.Apart.{are_apart}
 use Rattle.bf_base.proofs.Order.{same_from_some}
 use Rattle.bf_tree.specs.declared.migration.Item.{Item}
 use Rattle.bf_tree.specs.declared.migration.Target.{Target}
-use Rattle.bf_tree.specs.declared.reply.Refusal.{Refusal}
 use Rattle.bf_tree.specs.declared.reply.Refusal.TheVariants as refusal
 use Rattle.bf_sql.specs.Conditions.{all_there}
 use Rattle.bf_sql.specs.Database.{Database, IsDatabase, Stored, is_admitted, is_keyed, is_within, no_table, stored_at, stored_in_order, table_at, table_rows}
@@ -23,16 +22,16 @@ use Rattle.bf_sql.specs.migrations.Targets.{item_name, target_table}
 use Rattle.bf_image.proofs.items.Lists.{all_found, none_left, none_of_each, none_right, none_when}
 use Rattle.bf_image.proofs.items.Names.{name-equal, name-itself, name-symmetric}
 use Rattle.bf_inverse.specs.Copies.{copied_of}
-use Rattle.bf_inverse.specs.Wholes.{names_source, refs_in, refs_of}
+use Rattle.bf_inverse.specs.Wholes.{names_source, refs_in}
 use Rattle.bf_inverse.specs.declared.copied.Copied.{Copied}
 use Rattle.bf_inverse.proofs.Cells.{Column_copied, copied_row}
 use Rattle.bf_inverse.proofs.Different.{apart_from_before}
 use Rattle.bf_inverse.proofs.Finding.{found_passes}
-use Rattle.bf_inverse.proofs.Forward.{GiveEach, IsCopy, copy_target, image_given, is_copy, old_scope, same_some, stored_given, table_given}
+use Rattle.bf_inverse.proofs.Forward.{GiveEach, IsCopy, copy_target, image_given, is_copy, old_scope, stored_given, table_given}
 use Rattle.bf_inverse.proofs.Meant.{Own, same_own}
 use Rattle.bf_inverse.proofs.Regained.{own_of}
-use Rattle.bf_inverse.proofs.Restoring.{IsLong, StandIn, stored_copied, table_copied}
-use Rattle.bf_inverse.proofs.Tables.{found, found_in_order, found_left, name_of}
+use Rattle.bf_inverse.proofs.Restoring.{IsLong, stored_copied, table_copied}
+use Rattle.bf_inverse.proofs.Tables.{found}
 use Rattle.bf_inverse.proofs.Unique.{IsMeant, meant_by_items}
 
 -- what is true of a table of a database, and of one that is not there

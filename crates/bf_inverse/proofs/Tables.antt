@@ -1,11 +1,11 @@
 -- The tables of a database that are taken away by one flip and brought back by another.
-use Rattle.std.proofs.Common.{◌≡◌, ℕ, Bool, true, false, not, ◌&&◌, cond, List, [], ◌∷◌, ◌++◌, map, filter, find, Option, Some, None, Ordering, refl, sym, ap, ap₂, ◌∙◌, inl, inr}
+use Rattle.std.proofs.Common.{◌≡◌, ℕ, Bool, true, false, not, cond, List, [], ◌∷◌, ◌++◌, map, filter, find, Option, Some, None, refl, sym, ap, ap₂, ◌∙◌, inl, inr}
 use Rattle.std.specs.Ordering.{eq_by_cmp}
 use Rattle.std.proofs.lemmas.Bool.{cases_Bool, false≢true}
 use Rattle.bf_base.specs.Lists.{has, in_order, name_cmp, rises, same_name}
 use Rattle.bf_base.proofs.Apart.{apart_from_rises, are_apart, are_apart-same_items, look_up-same_items, with_placed-items}
 use Rattle.bf_base.proofs.Items.{mapped}
-use Rattle.bf_base.proofs.Names.{name_cmp_total, same_name-tie, same_name-tie_back}
+use Rattle.bf_base.proofs.Names.{name_cmp_total, same_name-tie}
 use Rattle.bf_base.proofs.Order.{equal_from_test, look_up, same_from_look_ups}
 use Rattle.bf_base.proofs.Ties.{name_ties}
 use Rattle.bf_sql.specs.Database.{Stored}

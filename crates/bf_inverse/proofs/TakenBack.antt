@@ -1,5 +1,5 @@
 -- The inverse of a MIGRATE gives its database back.
-use Rattle.std.proofs.Common.{◌≡◌, ℕ, zero, suc, ◌+◌, ◌<◌, ◌≤◌, Bool, true, false, not, ◌&&◌, ◌||◌, cond, List, [], ◌∷◌, ◌++◌, map, filter, flat_map, find, fold, length, Option, Some, None, is_some, unwrap_or, refl, sym, ap, ap₂, subst, ◌∙◌, arith, nat_lt, inl, inr, if◌then◌else◌}
+use Rattle.std.proofs.Common.{◌≡◌, ℕ, suc, ◌+◌, ◌≤◌, Bool, true, false, not, ◌&&◌, ◌||◌, cond, List, [], ◌∷◌, ◌++◌, map, filter, flat_map, fold, length, Option, Some, None, is_some, unwrap_or, refl, sym, ap, ap₂, subst, ◌∙◌, arith, nat_lt, inl, inr, if◌then◌else◌}
 use Rattle.std.specs.List.{AllByRecursion, list_all, list_any}
 use Rattle.std.specs.Ordering.{eq_by_cmp}
 use Rattle.std.proofs.lemmas.Bool.{and_from, and_parts, cases_Bool, false≢true, not-true, not_from_false, or_from, or_left, or_parts}
@@ -8,7 +8,7 @@ use Rattle.std.proofs.lemmas.List.{length-append, length-map}
 use Rattle.std.proofs.lemmas.List.Folds.{flat_map-map}
 use Rattle.bf_base.specs.Distinct.{distinct, with_new}
 use Rattle.bf_base.specs.Limits.{most_drivers, most_rows}
-use Rattle.bf_base.specs.Lists.{has, name_cmp, rises, same_name, when, with_before_from, with_placed}
+use Rattle.bf_base.specs.Lists.{has, name_cmp, same_name, when, with_before_from}
 use Rattle.bf_base.specs.declared.table.Table.{Table}
 use Rattle.bf_base.specs.declared.value.Value.{Value}
 use Rattle.bf_base.proofs.Apart.{apart-filter, apart_from_rises, are_apart}
@@ -20,7 +20,6 @@ use Rattle.bf_tree.specs.declared.migration.Arm.{Arm}
 use Rattle.bf_tree.specs.declared.migration.Migrate.{Migrate}
 use Rattle.bf_tree.specs.declared.migration.Target.{Target}
 use Rattle.bf_tree.specs.declared.plan.ArmKind.{ArmKind}
-use Rattle.bf_tree.specs.declared.plan.ArmKind.TheVariants.{ByFrom}
 use Rattle.bf_tree.specs.declared.reply.Refusal.{Refusal}
 use Rattle.bf_tree.specs.declared.reply.Refusal.TheVariants as refusal
 use Rattle.bf_tree.specs.declared.reply.Reply.{Reply}
@@ -32,21 +31,20 @@ use Rattle.bf_sql.specs.RowObjections.{size_objections}
 use Rattle.bf_sql.specs.migrations.Images.{flipped, image_of}
 use Rattle.bf_sql.specs.migrations.MigrationObjections.{driver_by, drivers_of, is_taken, migrate_objections, sources_of, taken_name_objections, target_objections}
 use Rattle.bf_sql.specs.migrations.Targets.{arm_kind, arm_sources, target_table}
-use Rattle.bf_eager.specs.Eager.{Ran}
 use Rattle.bf_index.proofs.Values.{distinct-apart, distinct-has}
 use Rattle.bf_image.specs.Lawful.{IsLawful}
-use Rattle.bf_image.proofs.items.Lists.{all_distinct, all_kept, all_of_blocks, all_of_map, all_so, each_block_within, has_own, none_left, none_right, none_when, some_of_those}
+use Rattle.bf_image.proofs.items.Lists.{all_distinct, all_kept, all_of_blocks, all_of_map, all_so, each_block_within, has_own, none_right, none_when, some_of_those}
 use Rattle.bf_image.proofs.items.Names.{name-equal, name-itself, name-symmetric}
 use Rattle.bf_image.proofs.admitting.Flip.{all_left, flip_keeps}
-use Rattle.bf_inverse.specs.Inverses.{arm_back, index_back, indexes_back, inverse_of, migrate_back, source_back, target_back}
-use Rattle.bf_inverse.specs.Undone.{CanBeUndone, HasArms, HasCreatedIndexes, IsTakenBack, has_arms, has_different_columns, is_refusal, ran_each, there_and_back, undone}
+use Rattle.bf_inverse.specs.Inverses.{arm_back, index_back, inverse_of, migrate_back, source_back, target_back}
+use Rattle.bf_inverse.specs.Undone.{CanBeUndone, HasArms, HasCreatedIndexes, IsTakenBack, has_arms, has_different_columns, is_refusal, run_each, there_and_back}
 use Rattle.bf_inverse.specs.Wholes.{keep_all, names_source, naming}
 use Rattle.bf_inverse.specs.declared.copied.Copied.{Copied}
 use Rattle.bf_inverse.proofs.Backward.{one_fine, own-itself, own-symmetric, two_fine}
 use Rattle.bf_inverse.proofs.Brought.{brought_by_one, brought_by_two, key_in_both, own_members}
 use Rattle.bf_inverse.proofs.Cells.{copied_row}
 use Rattle.bf_inverse.proofs.Different.{all_new, before_from_apart, is_new_behind}
-use Rattle.bf_inverse.proofs.Finding.{at_name, each_both, each_kept, each_none, each_of_map, each_passes, each_so, each_true, found_passes, none_found, passes_at_name, true_each}
+use Rattle.bf_inverse.proofs.Finding.{at_name, each_both, each_kept, each_none, each_of_map, each_passes, each_so, each_true, none_found, passes_at_name, true_each}
 use Rattle.bf_inverse.proofs.Forward.{IsCopy}
 use Rattle.bf_inverse.proofs.Joined.{list_all-map, map-map}
 use Rattle.bf_inverse.proofs.Meant.{same_own}
@@ -56,7 +54,7 @@ use Rattle.bf_inverse.proofs.Restoring.{StandIn, kind_of_two, rows_found}
 use Rattle.bf_inverse.proofs.Standing.{AreCopies, IsSound, IsThere, copies_each, found_none, made, same_target, sound, there}
 use Rattle.bf_inverse.proofs.Tables.{IsFoundAlike, found, found_gone, found_in_order, found_right, name_of, staying, tables_again}
 use Rattle.bf_inverse.proofs.Unobjected.{none_of_all}
-use Rattle.bf_inverse.proofs.Wholly.{AreFew, IsBack, apart_by_names, each_back, few_rows, is_free, targets_apart, targets_fine, targets_free, unobjected}
+use Rattle.bf_inverse.proofs.Wholly.{AreFew, IsBack, apart_by_names, each_back, few_rows, is_free, targets_free, unobjected}
 
 flat_map_each : {X Y : Type 0} (f g : X → List Y) (xs : List X) → AllByRecursion (λ (x : X). f x ≡ g x) xs → flat_map f xs ≡ flat_map g xs
 flat_map_each f g [] all = refl
@@ -179,7 +177,7 @@ module _ (table : Table) (now : Database) (rows : List (List Value)) (is : IsSou
 
 no_objection_when : {X : Type 0} (test : X → Bool) (r : X → Refusal) (xs : List X) → list_all (λ (x : X). not (test x)) xs ≡ true → flat_map (λ (x : X). when (test x) (r x)) xs ≡ []
 no_objection_when test r [] all = refl
-no_objection_when test r (x ∷ xs) all =
+no_objection_when {X = X} test r (x ∷ xs) all =
     let both = and_parts (not (test x)) (list_all (λ (x : X). not (test x)) xs) all in
     ap₂ (λ (b : Bool) (rest : List Refusal). when b (r x) ++ rest) (not-true (test x) both.0) (no_objection_when test r xs both.1)
 
@@ -202,11 +200,16 @@ none_of_name x name p (y ∷ xs) named none =
     ap (same_name y.table.name) (sym named) ∙ name-symmetric y.table.name x.table.name ∙ same_name-tie x.table.name y.table.name ∙ others.0 in
     or_from (same_name y.table.name name && p y) (list_any (λ (y : Stored). same_name y.table.name name && p y) xs) (ap (λ (b : Bool). b && p y) other) (none_of_name x name p xs named others.1)
 
+or_none : (b : Bool) → (b || false) ≡ b
+or_none true = refl
+or_none false = refl
+
 found_within : (xs : List Stored) (name : List ℕ) (p : Stored → Bool) (s : Stored) → are_apart (eq_by_cmp name_cmp) (map name_of xs) ≡ true → found xs name ≡ Some s
     → list_any (λ (y : Stored). same_name y.table.name name && p y) xs ≡ true → p s ≡ true
 found_within [] name p s apart e some = absurd (false≢true some)
 found_within (x ∷ xs) name p s apart e some = of (same_name x.table.name name) refl (found_within xs name p s parts.1)
   where
+    parts : (not (has (eq_by_cmp name_cmp) (map name_of xs) x.table.name) ≡ true) × (are_apart (eq_by_cmp name_cmp) (map name_of xs) ≡ true)
     parts = and_parts (not (has (eq_by_cmp name_cmp) (map name_of xs) x.table.name)) (are_apart (eq_by_cmp name_cmp) (map name_of xs)) apart
 
     of : (b : Bool) → same_name x.table.name name ≡ b → (found xs name ≡ Some s → list_any (λ (y : Stored). same_name y.table.name name && p y) xs ≡ true → p s ≡ true) → p s ≡ true
@@ -218,10 +221,6 @@ found_within (x ∷ xs) name p s apart e some = of (same_name x.table.name name)
         rest (sym (ap (λ (b : Bool). cond b (Some x) (found xs name)) other) ∙ e)
         (sym (ap (λ (b : Bool). (b && p x) || list_any (λ (y : Stored). same_name y.table.name name && p y) xs) other) ∙ some)
 
-    or_none : (b : Bool) → (b || false) ≡ b
-    or_none true = refl
-    or_none false = refl
-
 apart_by_index : (indexes : List IndexRule) → are_apart same_index indexes ≡ are_apart (eq_by_cmp name_cmp) (map index_name indexes)
 apart_by_index [] = refl
 apart_by_index (i ∷ indexes) = ap₂ (λ (a b : Bool). not a && b) (alike indexes) (apart_by_index indexes)
@@ -230,10 +229,10 @@ apart_by_index (i ∷ indexes) = ap₂ (λ (a b : Bool). not a && b) (alike inde
     alike [] = refl
     alike (j ∷ js) = ap₂ (λ (a b : Bool). a || b) (same_name-tie i.name j.name) (alike js)
 
--- the inverse gives the database back, however many groups have committed before
+-- the inverse gives the database back behind n commits
 pub record GivesBack (db : Database) (m : Migrate) (n : ℕ) : Type 0 where
-  pub answered : list_all (λ (r : Reply). not (is_refusal r)) (ran_each (record { commits = n; database = flipped db m }) (inverse_of db m)).0 ≡ true
-  pub regained : (ran_each (record { commits = n; database = flipped db m }) (inverse_of db m)).1.database ≡ record db { number = db.number + length (there_and_back db m) }
+  pub answered : list_all (λ (r : Reply). not (is_refusal r)) (run_each n (flipped db m) (inverse_of db m)).0 ≡ true
+  pub regained : (run_each n (flipped db m) (inverse_of db m)).1 ≡ record db { number = db.number + length (there_and_back db m) }
 
 module _ (db : Database) (is : IsDatabase db) (m : Migrate) (arms : HasArms m) (can : CanBeUndone db m) where
   abbrev sources : List (List ℕ)
@@ -322,7 +321,7 @@ module _ (db : Database) (is : IsDatabase db) (m : Migrate) (arms : HasArms m) (
       of : (a b : Bool) → b ≡ false → not (a && not b) ≡ true → a ≡ false
       of false b other free = refl
       of true false other free = absurd (false≢true free)
-      of true true other free = sym other
+      of true true other free = other
 
   -- what the targets of the inverse hold
   made_back : (source : List ℕ) → IsBack db now m source → made now (source_back db m source) ≡ kept db source
@@ -540,17 +539,12 @@ module _ (db : Database) (is : IsDatabase db) (m : Migrate) (arms : HasArms m) (
         let counted : db.number + 1 + 1 + length (filter on_source db.indexes) ≡ db.number + suc (suc (length (map (index_back db) (filter on_source db.indexes)))) = omega (arith, many) in
         let last : AreCreated db (n + 1) (db.number + 1 + 1) (filter (λ (i : IndexRule). not (on_source i)) db.indexes) (filter on_source db.indexes) = again (n + 1) in
         record {
-          answered = ap (λ (out : List Reply × Ran). list_all (λ (r : Reply). not (is_refusal r)) out.0) all ∙ last.answered;
-          regained = ap (λ (out : List Reply × Ran). out.1.database) all ∙ last.left ∙ ap₂ (λ (n : ℕ) (indexes : List IndexRule). with_indexes db n indexes) counted (placed_again db.indexes is.indexes_by_name on_source);
+          answered = ap (λ (out : List Reply × Database). list_all (λ (r : Reply). not (is_refusal r)) out.0) all ∙ last.answered;
+          regained = ap (λ (out : List Reply × Database). out.1) all ∙ last.left ∙ ap₂ (λ (n : ℕ) (indexes : List IndexRule). with_indexes db n indexes) counted (placed_again db.indexes is.indexes_by_name on_source);
         }
 
-pub inverse_gives_back : (db : Database) (m : Migrate) → IsDatabase db → HasCreatedIndexes db → HasArms m → CanBeUndone db m → (n : ℕ) → GivesBack db m n
-inverse_gives_back db m is created arms can n = gives_back db is m arms can created n
-
 pub inverse_takes_back : (db : Database) (m : Migrate) → IsDatabase db → HasCreatedIndexes db → HasArms m → CanBeUndone db m → IsTakenBack db m
-inverse_takes_back db m is created arms can =
-    let gives : GivesBack db m 0 = inverse_gives_back db m is created arms can 0 in
-    record { answered = gives.answered; regained = gives.regained }
+inverse_takes_back db m is created arms can = record { answered = λ n. (gives_back db is m arms can created n).answered; regained = λ n. (gives_back db is m arms can created n).regained }
 
 -- a MIGRATE that can be undone names no more sources than it has drivers
 pub few_sources_of : (db : Database) (m : Migrate) → IsDatabase db → HasArms m → CanBeUndone db m → nat_lt most_drivers (length (sources_of m)) ≡ false

@@ -1,6 +1,6 @@
 -- A table of which each column is meant by a ref to it alone: its columns have different names.
-use Rattle.std.proofs.Common.{◌≡◌, ℕ, zero, suc, ◌+◌, ◌<◌, Bool, true, false, ◌&&◌, cond, List, [], ◌∷◌, ◌++◌, map, filter, flat_map, length, get_or, Option, Some, None, refl, sym, ap, ap₂, ◌∙◌, arith, add-zero, append-nil, nat_eq, nat_lt, ◌==◌}
-use Rattle.std.specs.List.{list_all, enumerate_from}
+use Rattle.std.proofs.Common.{◌≡◌, ℕ, suc, ◌+◌, ◌<◌, Bool, true, false, ◌&&◌, cond, List, [], ◌∷◌, ◌++◌, map, filter, flat_map, length, get_or, Some, refl, sym, ap, ◌∙◌, arith, add-zero, append-nil, nat_lt, ◌==◌}
+use Rattle.std.specs.List.{enumerate_from}
 use Rattle.std.proofs.lemmas.Bool.{and_parts, eqb-true}
 use Rattle.std.proofs.lemmas.Bool.Decides.{nat_tests}
 use Rattle.std.proofs.lemmas.List.{get_or-map, length-map}
@@ -9,11 +9,10 @@ use Rattle.bf_base.specs.declared.table.Column.{Column}
 use Rattle.bf_base.specs.declared.table.Table.{Table}
 use Rattle.bf_base.specs.Lists.{same_name, when}
 use Rattle.bf_base.proofs.Apart.{are_apart}
-use Rattle.bf_tree.specs.Trees.{Expr, literal, column, negated, plus, minus, times, joined}
+use Rattle.bf_tree.specs.Trees.{literal, column, negated, plus, minus, times, joined}
 use Rattle.bf_tree.specs.declared.migration.Item.{Item}
 use Rattle.bf_tree.specs.declared.migration.Item.TheVariants as item
 use Rattle.bf_tree.specs.declared.raw.Ref.{Ref}
-use Rattle.bf_tree.specs.declared.reply.Refusal.{Refusal}
 use Rattle.bf_tree.specs.declared.reply.Refusal.TheVariants as refusal
 use Rattle.bf_sql.specs.Objections.{column_names}
 use Rattle.bf_sql.specs.Scopes.{Scope, is_qualified_by, place_of, places_of, qualifier_objections, ref_objections, scope_of}
@@ -23,7 +22,7 @@ use Rattle.bf_image.proofs.items.Lists.{none_left, none_right, none_when}
 use Rattle.bf_image.proofs.items.Names.{name-equal, name-itself}
 use Rattle.bf_inverse.proofs.Cells.{Column_copied}
 use Rattle.bf_inverse.proofs.Different.{apart_if_once}
-use Rattle.bf_inverse.proofs.Forward.{GiveEach, Gives, same_some}
+use Rattle.bf_inverse.proofs.Forward.{GiveEach, same_some}
 use Rattle.bf_inverse.proofs.Meant.{places_mapped}
 
 -- a ref that means a column alone

@@ -1,30 +1,27 @@
 -- Nothing stands in the way of a target that an inverse makes.
-use Rattle.std.proofs.Common.{◌≡◌, ℕ, zero, suc, ◌+◌, ◌<◌, Bool, true, false, not, ◌&&◌, ◌||◌, cond, List, [], ◌∷◌, ◌++◌, map, flat_map, length, get_or, Option, Some, None, is_some, refl, sym, ap, ap₂, ◌∙◌, arith, nat_eq, nat_lt, eqb, append-nil, ◌==◌}
+use Rattle.std.proofs.Common.{◌≡◌, ℕ, zero, suc, ◌+◌, ◌<◌, Bool, true, false, not, List, [], ◌∷◌, ◌++◌, map, flat_map, length, get_or, is_some, refl, ap, ap₂, ◌∙◌, arith, nat_lt, ◌==◌}
 use lib.Pointwise.{pointwise}
-use Rattle.std.specs.Cmp.{nat_eq_equiv}
 use Rattle.std.specs.List.{AllByRecursion, enumerate_from, list_all, list_any}
-use Rattle.std.specs.Option.{option_map}
-use Rattle.std.proofs.lemmas.Bool.{and_from, and_parts, not-true, not_from_true, or_left, or_right}
+use Rattle.std.proofs.lemmas.Bool.{and_from, and_parts, not-true, or_left, or_right}
 use Rattle.std.proofs.lemmas.List.{get_or-map, length-map}
-use Rattle.bf_base.specs.Lists.{has, same_name, when, with_before, with_before_from}
-use Rattle.bf_base.specs.Tables.{kind_admitted, same_kind}
+use Rattle.bf_base.specs.Lists.{has, same_name, when, with_before_from}
+use Rattle.bf_base.specs.Tables.{same_kind}
 use Rattle.bf_base.specs.declared.table.Admit.{Admit}
 use Rattle.bf_base.specs.declared.table.Admit.TheVariants as admits
 use Rattle.bf_base.specs.declared.table.Column.{Column}
 use Rattle.bf_base.specs.declared.table.Kind.{Kind}
 use Rattle.bf_base.specs.declared.table.Kind.TheVariants as kinds
-use Rattle.bf_base.specs.declared.table.Table.{Table}
 use Rattle.bf_base.proofs.Apart.{are_apart}
-use Rattle.bf_tree.specs.Trees.{Expr, column}
+use Rattle.bf_tree.specs.Trees.{column}
 use Rattle.bf_tree.specs.declared.migration.Item.{Item}
 use Rattle.bf_tree.specs.declared.raw.Ref.{Ref}
 use Rattle.bf_tree.specs.declared.reply.Refusal.{Refusal}
 use Rattle.bf_tree.specs.declared.reply.Refusal.TheVariants as refusal
-use Rattle.bf_sql.specs.Database.{Database, Stored, stored_at}
-use Rattle.bf_sql.specs.Scopes.{Scope, admitted_by, places_of, qualifier_objections, ref_objections, twice_objections}
+use Rattle.bf_sql.specs.Database.{Database, stored_at}
+use Rattle.bf_sql.specs.Scopes.{Scope, admitted_by, ref_objections, twice_objections}
 use Rattle.bf_sql.specs.migrations.Extents.{extent_of, extent_of_admit, may_fail}
-use Rattle.bf_sql.specs.migrations.MigrationObjections.{failing_objections, item_objections, source_objections}
-use Rattle.bf_sql.specs.migrations.Targets.{arm_scope, extent_of_item, item_name, plain_ref}
+use Rattle.bf_sql.specs.migrations.MigrationObjections.{item_objections, source_objections}
+use Rattle.bf_sql.specs.migrations.Targets.{extent_of_item}
 use Rattle.bf_inverse.specs.Inverses.{first_ref, item_back}
 use Rattle.bf_inverse.specs.Wholes.{refs_of}
 use Rattle.bf_inverse.specs.declared.copied.Copied.{Copied}

@@ -1,8 +1,7 @@
 -- What a MIGRATE that can be undone leaves of each of its sources.
-use Rattle.std.proofs.Common.{◌≡◌, ℕ, zero, suc, ◌+◌, ◌<◌, Bool, true, false, not, ◌&&◌, ◌||◌, cond, List, [], ◌∷◌, ◌++◌, map, filter, flat_map, length, Option, Some, None, is_some, unwrap_or, refl, sym, ap, ap₂, subst, ◌∙◌, arith, nat_eq, nat_lt, ◌==◌, inl, inr}
+use Rattle.std.proofs.Common.{◌≡◌, ℕ, suc, ◌<◌, Bool, true, false, not, ◌&&◌, ◌||◌, List, [], ◌∷◌, ◌++◌, map, filter, flat_map, length, Option, Some, None, is_some, refl, sym, ap, ap₂, subst, ◌∙◌, arith, nat_eq, nat_lt, ◌==◌, inl, inr}
 use Rattle.std.specs.List.{AllByRecursion, list_all, list_any}
 use Rattle.std.proofs.lemmas.Bool.{and_parts, and_from, cases_Bool, eqb-true, false≢true, ltb-true, not-true, not_from_false, or_from, or_parts}
-use Rattle.std.proofs.lemmas.List.{length-append, length-map}
 use Rattle.std.proofs.lemmas.List.Folds.{list_any-append}
 use Rattle.bf_base.specs.Lists.{has, name_cmp, rises, same_name, when, with_before, with_before_from}
 use Rattle.bf_base.proofs.Apart.{are_apart, apart-append, apart-filter}
@@ -19,17 +18,15 @@ use Rattle.bf_sql.specs.Scopes.{scope_of}
 use Rattle.bf_sql.specs.migrations.Images.{flipped}
 use Rattle.bf_sql.specs.migrations.MigrationObjections.{arm_objections, is_taken, migrate_objections, source_objections, sources_of, target_objections}
 use Rattle.bf_sql.specs.migrations.Targets.{arm_sources}
-use Rattle.bf_index.proofs.Values.{distinct-has}
 use Rattle.bf_image.proofs.items.Lists.{all_distinct, all_of_blocks, none_left, none_of_each, none_right, none_when}
-use Rattle.bf_image.proofs.items.Names.{name-equal, name-itself, name-symmetric}
+use Rattle.bf_image.proofs.items.Names.{name-symmetric}
 use Rattle.bf_inverse.specs.Undone.{CanBeUndone}
-use Rattle.bf_inverse.specs.Wholes.{are_whole, copies_of, first_lossy, is_whole, keep_all, names_source, naming, places_in, refs_in, refs_of, stands_once}
+use Rattle.bf_inverse.specs.Wholes.{are_whole, copies_of, is_whole, keep_all, names_source, naming, places_in, refs_in, refs_of, stands_once}
 use Rattle.bf_inverse.specs.declared.copied.Copied.{Copied}
 use Rattle.bf_inverse.proofs.Brought.{key_at, own_members, stands_from}
 use Rattle.bf_inverse.proofs.Cells.{Column_copied}
 use Rattle.bf_inverse.proofs.Different.{apart_from_before}
 use Rattle.bf_inverse.proofs.Finding.{each_both, each_kept, each_none, each_passes, each_so, each_true, none_found, twice_not}
-use Rattle.bf_inverse.proofs.Forward.{IsCopy}
 use Rattle.bf_inverse.proofs.Meant.{Own, same_own}
 use Rattle.bf_inverse.proofs.Regained.{all_own, own_of}
 use Rattle.bf_inverse.proofs.Restoring.{StandIn}
@@ -104,12 +101,13 @@ all_own_apart (c ∷ cs) all apart =
 -- where each of some places stands once in each copy, each copy has each place
 keys_in_each : (ks : List ℕ) (cs : List Copied) → AllByRecursion (λ (k : ℕ). list_all (λ (c : Copied). length (refs_in k c) == 1) cs ≡ true) ks → AllByRecursion (λ (c : Copied). AllByRecursion (λ (k : ℕ). 0 < length (refs_in k c)) ks) cs
 keys_in_each ks [] all = tt
-keys_in_each ks (c ∷ cs) all =
-    (each_so (λ (k : ℕ). list_all (λ (c : Copied). length (refs_in k c) == 1) (c ∷ cs) ≡ true) (λ (k : ℕ). 0 < length (refs_in k c))
-    (λ k once. let one : length (refs_in k c) ≡ 1 = eqb-true (length (refs_in k c)) 1 (and_parts (length (refs_in k c) == 1) (list_all (λ (c : Copied). length (refs_in k c) == 1) cs) once).0 in omega (arith, one)) ks all,
-    keys_in_each ks cs
-    (each_so (λ (k : ℕ). list_all (λ (c : Copied). length (refs_in k c) == 1) (c ∷ cs) ≡ true) (λ (k : ℕ). list_all (λ (c : Copied). length (refs_in k c) == 1) cs ≡ true)
-    (λ k once. (and_parts (length (refs_in k c) == 1) (list_all (λ (c : Copied). length (refs_in k c) == 1) cs) once).1) ks all))
+keys_in_each ks (c ∷ cs) all = (
+  each_so (λ (k : ℕ). list_all (λ (c : Copied). length (refs_in k c) == 1) (c ∷ cs) ≡ true) (λ (k : ℕ). 0 < length (refs_in k c))
+      (λ k once. let one : length (refs_in k c) ≡ 1 = eqb-true (length (refs_in k c)) 1 (and_parts (length (refs_in k c) == 1) (list_all (λ (c : Copied). length (refs_in k c) == 1) cs) once).0 in omega (arith, one)) ks all,
+  keys_in_each ks cs
+      (each_so (λ (k : ℕ). list_all (λ (c : Copied). length (refs_in k c) == 1) (c ∷ cs) ≡ true) (λ (k : ℕ). list_all (λ (c : Copied). length (refs_in k c) == 1) cs ≡ true)
+      (λ k once. (and_parts (length (refs_in k c) == 1) (list_all (λ (c : Copied). length (refs_in k c) == 1) cs) once).1) ks all),
+)
 
 -- BACK: a source that its targets give back
 pub record IsBack (db now : Database) (m : Migrate) (source : List ℕ) : Type 0 where
@@ -123,6 +121,27 @@ pub record IsBack (db now : Database) (m : Migrate) (source : List ℕ) : Type 0
   pub columns : are_apart same_name (column_names (table_at db source)) ≡ true
   pub differ : are_apart same_name (map (λ (c : Copied). c.name) copies) ≡ true
   pub named : map (λ (c : Copied). c.name) copies ≡ map (λ (t : Target). t.name) (naming m source)
+
+-- the sources of a MIGRATE to which the catalog has no objection are there
+pub sources_found : (db : Database) (m : Migrate) → migrate_objections db m ≡ [] → list_all (λ (name : List ℕ). is_some (stored_at db name)) (sources_of m) ≡ true
+sources_found db m unobjected =
+    all_distinct same_name (λ (name : List ℕ). is_some (stored_at db name)) (flat_map (λ (t : Target). flat_map arm_sources t.arms) m.targets)
+    (all_of_blocks (λ (name : List ℕ). is_some (stored_at db name)) (λ (t : Target). flat_map arm_sources t.arms) m.targets
+    (none_of_each (target_objections db) (λ (t : Target). list_all (λ (name : List ℕ). is_some (stored_at db name)) (flat_map arm_sources t.arms)) target_there m.targets (none_left _ _ (none_left _ _ unobjected))))
+  where
+    name_there : (name : List ℕ) → source_objections db name ≡ [] → is_some (stored_at db name) ≡ true
+    name_there name e = of (is_some (stored_at db name)) (none_when (not (is_some (stored_at db name))) (refusal.SourceUnknown name) e)
+      where
+        of : (b : Bool) → not b ≡ false → b ≡ true
+        of true e = refl
+        of false e = sym e
+
+    target_there : (t : Target) → target_objections db t ≡ [] → list_all (λ (name : List ℕ). is_some (stored_at db name)) (flat_map arm_sources t.arms) ≡ true
+    target_there t none =
+        all_of_blocks (λ (name : List ℕ). is_some (stored_at db name)) arm_sources t.arms
+        (none_of_each (arm_objections db t) (λ arm. list_all (λ (name : List ℕ). is_some (stored_at db name)) (arm_sources arm))
+        (λ arm e. none_of_each (source_objections db) (λ (name : List ℕ). is_some (stored_at db name)) name_there (arm_sources arm) (none_left _ _ (none_left _ _ (none_left _ _ (none_left _ _ (none_left _ _ e))))))
+        t.arms (none_left _ _ (none_left _ _ (none_left _ _ (none_left _ _ (none_left _ _ none))))))
 
 module _ (db : Database) (is : IsDatabase db) (m : Migrate) (can : CanBeUndone db m) where
   pub unobjected : migrate_objections db m ≡ []
@@ -156,24 +175,7 @@ module _ (db : Database) (is : IsDatabase db) (m : Migrate) (can : CanBeUndone d
           and_from (is_free t.name) (list_all (λ (t : Target). is_free t.name) ts) both.0 (all_last (seen ++ t ∷ []) ts both.1)
 
   pub sources_there : list_all (λ (name : List ℕ). is_some (stored_at db name)) (sources_of m) ≡ true
-  sources_there =
-      all_distinct same_name (λ (name : List ℕ). is_some (stored_at db name)) (flat_map (λ (t : Target). flat_map arm_sources t.arms) m.targets)
-      (all_of_blocks (λ (name : List ℕ). is_some (stored_at db name)) (λ (t : Target). flat_map arm_sources t.arms) m.targets
-      (none_of_each (target_objections db) (λ (t : Target). list_all (λ (name : List ℕ). is_some (stored_at db name)) (flat_map arm_sources t.arms)) target_there m.targets (none_left _ _ (none_left _ _ unobjected))))
-    where
-      name_there : (name : List ℕ) → source_objections db name ≡ [] → is_some (stored_at db name) ≡ true
-      name_there name e = of (is_some (stored_at db name)) (none_when (not (is_some (stored_at db name))) (refusal.SourceUnknown name) e)
-        where
-          of : (b : Bool) → not b ≡ false → b ≡ true
-          of true e = refl
-          of false e = sym e
-
-      target_there : (t : Target) → target_objections db t ≡ [] → list_all (λ (name : List ℕ). is_some (stored_at db name)) (flat_map arm_sources t.arms) ≡ true
-      target_there t none =
-          all_of_blocks (λ (name : List ℕ). is_some (stored_at db name)) arm_sources t.arms
-          (none_of_each (arm_objections db t) (λ arm. list_all (λ (name : List ℕ). is_some (stored_at db name)) (arm_sources arm))
-          (λ arm e. none_of_each (source_objections db) (λ (name : List ℕ). is_some (stored_at db name)) name_there (arm_sources arm) (none_left _ _ (none_left _ _ (none_left _ _ (none_left _ _ (none_left _ _ e))))))
-          t.arms (none_left _ _ (none_left _ _ (none_left _ _ (none_left _ _ (none_left _ _ none))))))
+  sources_there = sources_found db m unobjected
 
   pub sources_whole : AllByRecursion (λ (source : List ℕ). is_whole db m source ≡ true) (sources_of m)
   sources_whole =
@@ -195,10 +197,11 @@ module _ (db : Database) (is : IsDatabase db) (m : Migrate) (can : CanBeUndone d
       stand_each [] [] copy names stand keys = tt
       stand_each [] (c ∷ cs) copy names stand keys = absurd copy
       stand_each (t ∷ ts) [] copy names stand keys = absurd copy
-      stand_each (t ∷ ts) (c ∷ cs) copy names stand keys =
-          (ap (stored_at (flipped db m)) (sym (ap (λ (t : Target). t.name) copy.0.is)) ∙ stand.0
-          ∙ ap Some (copy_made db source t c copy.0 (from_source db source t c copy.0 names.0) (sound db is source) keys.0),
-          stand_each ts cs copy.1 names.1 stand.1 keys.1)
+      stand_each (t ∷ ts) (c ∷ cs) copy names stand keys = (
+        ap (stored_at (flipped db m)) (sym (ap (λ (t : Target). t.name) copy.0.is)) ∙ stand.0
+            ∙ ap Some (copy_made db source t c copy.0 (from_source db source t c copy.0 names.0) (sound db is source) keys.0),
+        stand_each ts cs copy.1 names.1 stand.1 keys.1,
+      )
 
       own_each : (ts : List Target) (cs : List Copied) → AreCopies db ts cs → AllByRecursion (λ (t : Target). target_objections db t ≡ []) ts → AllByRecursion (λ (c : Copied). are_apart same_own (own_of c) ≡ true) cs
       own_each [] [] copy fine = tt

@@ -1,5 +1,6 @@
 pub mod Catalogued
 pub mod Found
+pub mod Narrow
 pub mod Placing
 pub mod RunEach
 pub mod Walks

@@ -1,7 +1,12 @@
 -- The way back by a plan is the way back by the names.
-use Rattle.std.proofs.Common.{◌≡◌, ℕ, Bool, true, false, not, cond, List, [], ◌∷◌, ◌++◌, map, filter, find, zip, Option, Some, None, Result, Ok, Err, unwrap_or, refl, sym, ap, ap₂, ◌∙◌, option_map, if◌then◌else◌}
+use Rattle.std.proofs.Common.{◌≡◌, ℕ, Bool, true, false, not, cond, List, [], ◌∷◌, ◌++◌, map, filter, find, zip, Option, Some, None, Result, Ok, Err, is_some, unwrap_or, refl, sym, ap, ap₂, ◌∙◌, option_map, if◌then◌else◌}
+use Rattle.std.specs.List.{list_all}
 use Rattle.std.specs.Result.{result_map_both}
+use Rattle.std.proofs.lemmas.Bool.{and_from, and_parts}
 use Rattle.bf_base.specs.Lists.{has, same_name}
+use Rattle.bf_base.specs.declared.table.Table.{Table}
+use Rattle.bf_tree.specs.Catalogs.{Catalog}
+use Rattle.bf_tree.specs.Places.{table_named}
 use Rattle.bf_tree.specs.Settling.{first_of}
 use Rattle.bf_tree.specs.Trees.{Expr, literal, column, negated, plus, minus, times, joined}
 use Rattle.bf_tree.specs.declared.migration.Arm.{Arm}
@@ -10,17 +15,24 @@ use Rattle.bf_tree.specs.declared.migration.Item.TheVariants as item
 use Rattle.bf_tree.specs.declared.migration.Migrate.{Migrate}
 use Rattle.bf_tree.specs.declared.migration.Target.{Target}
 use Rattle.bf_tree.specs.declared.plan.PlacedArm.{PlacedArm}
+use Rattle.bf_tree.specs.declared.plan.Plan.{Plan}
+use Rattle.bf_tree.specs.declared.reply.Refusal.{Refusal}
 use Rattle.bf_tree.specs.declared.statement.Statement.TheVariants as statement
 use Rattle.bf_sql.specs.Conditions.{all_there}
-use Rattle.bf_sql.specs.Database.{Database, table_at}
+use Rattle.bf_sql.specs.Bound.{table_without_rows, without_rows}
+use Rattle.bf_sql.specs.Database.{Database, Stored, stored_at, table_at}
 use Rattle.bf_sql.specs.Scopes.{Scope}
 use Rattle.bf_sql.specs.migrations.Placed.{placed_arm, placed_item}
-use Rattle.bf_sql.specs.migrations.Plans.{plan_made}
+use Rattle.bf_sql.specs.migrations.MigrationObjections.{migrate_objections}
+use Rattle.bf_sql.specs.migrations.Plans.{plan_made, plan_of, planned_unless}
 use Rattle.bf_sql.specs.migrations.Targets.{arm_scope}
 use Rattle.bf_inverse.specs.Copies.{column_copied, copied_by, copied_of, is_bare}
 use Rattle.bf_inverse.specs.Inverses.{inverse_of, source_back, target_back}
 use Rattle.bf_reverse.specs.Planned.{column_placed, columns_placed, copied_arms, copied_placed, copies_planned, indexes_on, reversal_by, reversal_planned, targets_back}
-use Rattle.bf_reverse.specs.Reversals.{unless_lossy}
+use Rattle.bf_reverse.specs.Reversals.{reversal_of, unless_lossy, unless_refused}
+use Rattle.bf_reverse.specs.declared.reversal.Reversal.TheVariants.{Refused}
+use Rattle.bf_bind.proofs.Lookups.{stored-named}
+use Rattle.bf_inverse.proofs.Wholly.{sources_found}
 use Rattle.bf_inverse.specs.Wholes.{are_whole, copies_of, first_lossy, is_whole, names_source}
 use Rattle.bf_inverse.specs.declared.copied.Copied.{Copied}
 
@@ -100,3 +112,37 @@ module _ (db : Database) where
         of : (o : Option (List ℕ)) → reversal_by db (plan_made db m) (back_unless o (map (source_back db m) (plan_made db m).sources)) ≡ unless_lossy o (inverse_of db m)
         of None = refl
         of (Some source) = refl
+
+-- a plan that is made is one that the catalog allows, and its way back is the MIGRATE's
+pub reversed : (db : Database) (m : Migrate) (plan : Plan) → Ok plan ≡ plan_of db m → reversal_planned db plan ≡ reversal_of db m
+reversed db m plan is = of (migrate_objections db m) is
+  where
+    of : (rs : List Refusal) → Ok plan ≡ planned_unless rs (plan_made db m) → reversal_planned db plan ≡ unless_refused (first_of rs) (unless_lossy (first_lossy db m) (inverse_of db m))
+    of [] is = let same : plan ≡ plan_made db m = cc in ap (reversal_planned db) same ∙ planned_is db m
+    of (r ∷ rs) is = absurd cc
+
+pub refused : (db : Database) (m : Migrate) (r : Refusal) → Err r ≡ plan_of db m → Refused r ≡ reversal_of db m
+refused db m r is = of (migrate_objections db m) is
+  where
+    of : (rs : List Refusal) → Err r ≡ planned_unless rs (plan_made db m) → Refused r ≡ unless_refused (first_of rs) (unless_lossy (first_lossy db m) (inverse_of db m))
+    of [] is = absurd cc
+    of (q ∷ rs) is = let same : r ≡ q = cc in ap Refused same
+
+-- the sources of a plan are tables of its catalog
+pub sources_of_plan : (db : Database) (m : Migrate) (plan : Plan) → Ok plan ≡ plan_of db m → list_all (λ (name : List ℕ). is_some (stored_at db name)) plan.sources ≡ true
+sources_of_plan db m plan is = of (migrate_objections db m) refl is
+  where
+    of : (rs : List Refusal) → migrate_objections db m ≡ rs → Ok plan ≡ planned_unless rs (plan_made db m) → list_all (λ (name : List ℕ). is_some (stored_at db name)) plan.sources ≡ true
+    of [] none is = let same : plan ≡ plan_made db m = cc in ap (λ (p : Plan). list_all (λ (name : List ℕ). is_some (stored_at db name)) p.sources) same ∙ sources_found db m none
+    of (r ∷ rs) none is = absurd cc
+
+pub named_sources : (catalog : Catalog) (names : List (List ℕ)) → list_all (λ (name : List ℕ). is_some (stored_at (without_rows catalog) name)) names ≡ true → list_all (λ (name : List ℕ). is_some (table_named catalog name)) names ≡ true
+named_sources catalog [] all = refl
+named_sources catalog (name ∷ names) all =
+    let both = and_parts (is_some (stored_at (without_rows catalog) name)) (list_all (λ (name : List ℕ). is_some (stored_at (without_rows catalog) name)) names) all in
+    and_from (is_some (table_named catalog name)) (list_all (λ (name : List ℕ). is_some (table_named catalog name)) names)
+    (of (table_named catalog name) (ap (λ (o : Option Stored). is_some o) (sym (stored-named catalog name)) ∙ both.0)) (named_sources catalog names both.1)
+  where
+    of : (o : Option Table) → is_some (option_map table_without_rows o) ≡ true → is_some o ≡ true
+    of None e = e
+    of (Some table) e = refl

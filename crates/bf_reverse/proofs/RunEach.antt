@@ -15,9 +15,10 @@ use Rattle.bf_sql.specs.migrations.Images.{flipped}
 use Rattle.bf_sql.specs.migrations.MigrationObjections.{migrate_objections, sources_of}
 use Rattle.bf_eager.specs.Eager.{Ran, ran_entry}
 use Rattle.bf_inverse.specs.Inverses.{inverse_of}
-use Rattle.bf_inverse.specs.Undone.{CanBeUndone, HasArms, HasCreatedIndexes, HasRun, HasRunFront, HasUndone, is_refusal, ran_each, there_and_back, undone}
+use Rattle.bf_inverse.specs.Undone.{CanBeUndone, HasArms, HasCreatedIndexes, IsTakenBack, is_refusal, run_each, there_and_back, undone}
+use Rattle.bf_reverse.specs.Runs.{HasRun, HasRunFront, HasUndone, ran_each}
 use Rattle.bf_inverse.proofs.Reindexed.{ran_one}
-use Rattle.bf_inverse.proofs.TakenBack.{GivesBack, inverse_gives_back}
+use Rattle.bf_inverse.proofs.TakenBack.{inverse_takes_back}
 use Rattle.bf_inverse.proofs.Wholly.{few_rows, unobjected}
 
 -- statements behind others
@@ -53,6 +54,22 @@ front_first old new m (suc n, is) = (1, is ∙ ap (λ (ss : List Statement). (ra
 pub front_behind : (old between new : Ran) (m : Migrate) → between ≡ (ran_each old (statement.Migrate m ∷ [])).1 → HasRun between (inverse_of old.database m) new → HasRunFront old m new
 front_behind old between new m first (n, is) = (suc n, is ∙ ap (λ (ran : Ran). (ran_each ran (take n (inverse_of old.database m))).1) first)
 
+-- as many commits, and the meaning of each
+pub ran_as : (ran : Ran) (ss : List Statement) → ran_each ran ss ≡ ((run_each ran.commits ran.database ss).0, record { commits = ran.commits + length ss; database = (run_each ran.commits ran.database ss).1 })
+ran_as ran [] = ap (λ (n : ℕ). let out : List Reply × Ran = ([], record { commits = n; database = ran.database }) in out) (nothing_more ran.commits)
+  where
+    nothing_more : (n : ℕ) → n ≡ n + 0
+    nothing_more n = omega arith
+ran_as ran (s ∷ ss) =
+    let e : Reply × Database = executed (ran.commits + 1) ran.database false s in
+    let next : Ran = record { commits = ran.commits + 1; database = (executed (ran.commits + 1) ran.database false s).1 } in
+    ap (λ (out : List Reply × Ran). let more : List Reply × Ran = ((executed (ran.commits + 1) ran.database false s).0 ∷ out.0, out.1) in more)
+    (ran_as (record { commits = ran.commits + 1; database = (executed (ran.commits + 1) ran.database false s).1 }) ss)
+    ∙ ap (λ (n : ℕ). let out : List Reply × Ran = ((run_each ran.commits ran.database (s ∷ ss)).0, record { commits = n; database = (run_each ran.commits ran.database (s ∷ ss)).1 }) in out) (stepped ran.commits (length ss))
+  where
+    stepped : (n k : ℕ) → n + 1 + k ≡ n + suc k
+    stepped n k = omega arith
+
 -- UNDONE: the MIGRATE is run, and its inverse behind it
 module _ (old : Ran) (is : IsDatabase old.database) (created : HasCreatedIndexes old.database) (m : Migrate) (arms : HasArms m) (can : CanBeUndone old.database m) where
   flips : executed (old.commits + 1) old.database false (statement.Migrate m) ≡ (reply.Migrated (length m.targets), flipped old.database m)
@@ -60,22 +77,19 @@ module _ (old : Ran) (is : IsDatabase old.database) (created : HasCreatedIndexes
       ap (λ (rs : List Refusal). unless_refused rs old.database (λ u. effect (old.commits + 1) old.database (statement.Migrate m)))
       (ap₂ (λ (a b : List Refusal). a ++ b) (unobjected old.database is m can) (few_rows old.database is m can))
 
-  abbrev mid : Ran
-  mid = record { commits = old.commits + 1; database = flipped old.database m }
-
-  all : ran_each old (there_and_back old.database m) ≡ (reply.Migrated (length m.targets) ∷ (ran_each mid (inverse_of old.database m)).0, (ran_each mid (inverse_of old.database m)).1)
+  all : run_each old.commits old.database (there_and_back old.database m)
+      ≡ (reply.Migrated (length m.targets) ∷ (run_each (old.commits + 1) (flipped old.database m) (inverse_of old.database m)).0, (run_each (old.commits + 1) (flipped old.database m) (inverse_of old.database m)).1)
   all = ran_one old.database old.commits old.database (flipped old.database m) (statement.Migrate m) (inverse_of old.database m) (reply.Migrated (length m.targets)) flips
 
   pub has_undone : (replies : List Reply) (new : Ran) → (replies, new) ≡ ran_each old (there_and_back old.database m) → HasUndone old m replies new
   has_undone replies new ran =
-      let gives : GivesBack old.database m (old.commits + 1) = inverse_gives_back old.database m is created arms can (old.commits + 1) in
-      let alone : GivesBack old.database m 0 = inverse_gives_back old.database m is created arms can 0 in
-      let regained : new.database ≡ record old.database { number = old.database.number + length (there_and_back old.database m) } =
-      ap (λ (out : List Reply × Ran). out.1.database) ran ∙ ap (λ (out : List Reply × Ran). out.1.database) all ∙ gives.regained in
+      let back : IsTakenBack old.database m = inverse_takes_back old.database m is created arms can in
+      let meant = ran ∙ ran_as old (there_and_back old.database m) in
+      let left : new.database ≡ undone (old.commits + 1) old.database m = ap (λ (out : List Reply × Ran). out.1.database) meant ∙ ap (λ (out : List Reply × Database). out.1) all in
       record {
         can = can;
         ran = ran;
-        answered = ap (λ (out : List Reply × Ran). list_all (λ (r : Reply). not (is_refusal r)) out.0) ran ∙ ap (λ (out : List Reply × Ran). list_all (λ (r : Reply). not (is_refusal r)) out.0) all ∙ gives.answered;
-        undone = regained ∙ sym alone.regained;
-        regained = regained;
+        answered = ap (λ (out : List Reply × Ran). list_all (λ (r : Reply). not (is_refusal r)) out.0) meant ∙ ap (λ (out : List Reply × Database). list_all (λ (r : Reply). not (is_refusal r)) out.0) all ∙ back.answered (old.commits + 1);
+        undone = left;
+        regained = left ∙ back.regained (old.commits + 1);
       }

@@ -6,7 +6,7 @@ use Rattle.bf_tree.specs.declared.reply.Refusal.{Refusal}
 use Rattle.bf_tree.specs.declared.statement.Statement.{Statement}
 use Rattle.bf_sql.specs.Database.{Database}
 use Rattle.bf_sql.specs.migrations.MigrationObjections.{migrate_objections}
-use Rattle.bf_eager.specs.Beginnings.{first_against}
+use Rattle.bf_inverse.specs.Undone.{first_objection}
 use Rattle.bf_inverse.specs.Inverses.{inverse_of}
 use Rattle.bf_inverse.specs.Wholes.{first_lossy}
 use Rattle.bf_reverse.specs.declared.reversal.Reversal.{Reversal}
@@ -26,4 +26,4 @@ reversal_of db m = unless_refused (first_of (migrate_objections db m)) (unless_l
 
 -- and on a database, where a refusal by the rows counts like one by the catalog
 abbrev pub reversal_on : Database → Migrate → Reversal
-reversal_on db m = unless_refused (first_against db m) (unless_lossy (first_lossy db m) (inverse_of db m))
+reversal_on db m = unless_refused (first_objection db m) (unless_lossy (first_lossy db m) (inverse_of db m))

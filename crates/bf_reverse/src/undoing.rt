@@ -8,7 +8,8 @@ ghost use Rattle.bf_sql.specs.Database.{IsDatabase, table_rows};
 ghost use Rattle.bf_sql.specs.RowObjections.{first_oversize};
 ghost use Rattle.bf_eager.specs.Eager.{IsWholeGroup};
 ghost use Rattle.bf_reverse.specs.Reversals.{reversal_on};
-ghost use Rattle.bf_inverse.specs.Undone.{HasRun, ran_each, HasArms, HasCreatedIndexes, HasRunFront, IsUndoAnswer};
+ghost use Rattle.bf_inverse.specs.Undone.{HasArms, HasCreatedIndexes};
+ghost use Rattle.bf_reverse.specs.Runs.{HasRun, HasRunFront, IsUndoAnswer, ran_each};
 
 use crate::reversal::{Reversal, unless_lossy};
 use bf_base::{MOST_ROWS, Memory, Name};
@@ -49,11 +50,7 @@ fn oversize(alloc: Global, database: &Eager, sources: &[Name]) -> Result<Option<
 ///
 /// # Errors
 /// Where memory runs out.
-pub fn reverse_on(
-    alloc: Global,
-    database: &Eager,
-    migrate: &Migrate,
-) -> Result<Reversal, Memory>
+pub fn reverse_on(alloc: Global, database: &Eager, migrate: &Migrate) -> Result<Reversal, Memory>
     requires { IsNarrowMigrate migrate.now }
     ensures reversal { IfOk result (λ reversal. reversal ≡ reversal_on database.now.database migrate.now) }
     ensures database { IsDatabase database.now.database }

@@ -18,10 +18,10 @@ fn arm_names(arm: &Arm, source: &Name) -> bool
     ensures { result ≡ has same_name (arm_sources arm.now) source.now }
 {
     let joins = match &arm.join {
-        Some(join) => join.table == *source,
+        Some(join) => *source == join.table,
         None => false,
     };
-    arm.from == *source || joins
+    *source == arm.from || joins
 }
 
 /// Whether a target names a table in FROM or JOIN.

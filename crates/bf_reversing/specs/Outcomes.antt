@@ -15,7 +15,7 @@ use Rattle.bf_tree.specs.declared.script.Script.{Script}
 use Rattle.bf_tree.specs.declared.statement.Statement.{Statement}
 use Rattle.bf_tree.specs.declared.statement.Statement.TheVariants as statement
 use Rattle.bf_sql.specs.Database.{Database}
-use Rattle.bf_eager.specs.Beginnings.{first_against}
+use Rattle.bf_inverse.specs.Undone.{first_objection}
 use Rattle.bf_reversing.specs.Befores.{database_before, ends_in_block, last_statement}
 use Rattle.bf_inverse.specs.Inverses.{inverse_of}
 use Rattle.bf_reversing.specs.Spellings.{statements_text}
@@ -65,7 +65,7 @@ told_unless_refused (Some refusal) told = told_refused refusal
 -- of a MIGRATE on a database: its first refusal, by the catalog or else by the rows; else the first source that is not
 -- whole; else the inverse
 abbrev pub told_on : Database → Migrate → Told
-told_on db m = told_unless_refused (first_against db m) (told_unless_lossy (first_lossy db m) (inverse_of db m))
+told_on db m = told_unless_refused (first_objection db m) (told_unless_lossy (first_lossy db m) (inverse_of db m))
 
 -- of the MIGRATE that ends a script
 abbrev pub told_of_migrate : Script → Migrate → Told

@@ -1,5 +1,5 @@
 use Rattle.std.proofs.Common.{◌≡◌, ◌++◌, take}
-use Rattle.bf_inverse.specs.Undone.{ran_each}
+use Rattle.bf_reverse.specs.Runs.{ran_each}
 use Rattle.bf_reverse.proofs.undoing.run_each.Given as goal
 
 -- the statements so far have run
