@@ -1,5 +1,5 @@
-//! What a MIGRATE leaves of its old tables, the statements that take it back where each is whole in the new ones, and the
-//! theorem that they do.
+//! What a MIGRATE leaves of its old tables, the statements that take it back where each is whole in the new ones, and
+//! the theorem that they do.
 #![tactic(auto)]
 
 pub mod copied;

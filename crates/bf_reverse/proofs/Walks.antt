@@ -40,15 +40,15 @@ none_behind (x ∷ xs) zero over = absurd (omega arith)
 none_behind (x ∷ xs) (suc n) over = none_behind xs n (omega arith)
 
 -- the pairs of two lists from a place on
-module _ {A B : Type 0} (as : List A) (bs : List B) where
-  pub pair_at : (i : ℕ) (a : A) (b : B) → i < length as → i < length bs → a ≡ get_or as i a → b ≡ get_or bs i b → drop i (zip as bs) ≡ (a, b) ∷ drop (i + 1) (zip as bs)
-  pair_at i a b in_as in_bs at_as at_bs =
-      let less : i < length (zip as bs) = omega (arith, length-zip as bs) in
-      drop_more (zip as bs) i (a, b) less
-      ∙ ap (λ (p : A × B). p ∷ drop (i + 1) (zip as bs)) (get_or-zip as bs i (a, b) in_as in_bs ∙ ap₂ (λ (x : A) (y : B). let p : A × B = (x, y) in p) (sym at_as) (sym at_bs))
+module _ {A B : Type 0} (ks : List A) (vs : List B) where
+  pub pair_at : (i : ℕ) (a : A) (b : B) → i < length ks → i < length vs → a ≡ get_or ks i a → b ≡ get_or vs i b → drop i (zip ks vs) ≡ (a, b) ∷ drop (i + 1) (zip ks vs)
+  pair_at i a b in_ks in_vs at_ks at_vs =
+      let less : i < length (zip ks vs) = omega (arith, length-zip ks vs) in
+      drop_more (zip ks vs) i (a, b) less
+      ∙ ap (λ (p : A × B). p ∷ drop (i + 1) (zip ks vs)) (get_or-zip ks vs i (a, b) in_ks in_vs ∙ ap₂ (λ (x : A) (y : B). let p : A × B = (x, y) in p) (sym at_ks) (sym at_vs))
 
-  pub no_pair : drop (min (length as) (length bs)) (zip as bs) ≡ []
-  no_pair = none_behind (zip as bs) (min (length as) (length bs)) (omega (arith, length-zip as bs))
+  pub no_pair : drop (min (length ks) (length vs)) (zip ks vs) ≡ []
+  no_pair = none_behind (zip ks vs) (min (length ks) (length vs)) (omega (arith, length-zip ks vs))
 
 pub any_of_blocks : {X Y : Type 0} (test : Y → Bool) (f : X → List Y) (xs : List X) → list_any (λ (x : X). list_any test (f x)) xs ≡ list_any test (flat_map f xs)
 any_of_blocks test f [] = refl

@@ -5,7 +5,8 @@ ghost use Rattle.std.specs.Option.{option_copied, option_map};
 ghost use Rattle.std.specs.Prelude.{◌≡◌, ◌<◌, ◌≤◌, ◌==◌, IfOk, IsTrue, find, length, map};
 ghost use Rattle.bf_base.specs.Limits.{most_columns};
 ghost use Rattle.bf_sql.specs.Database.{is_within};
-ghost use Rattle.bf_inverse.specs.Inverses.{arm_back, first_ref, index_on, item_back, join_back, names_at, pair_back, target_back};
+ghost use Rattle.bf_inverse.specs.Inverses.{arm_back, first_ref, index_on, item_back};
+ghost use Rattle.bf_inverse.specs.Inverses.{join_back, names_at, pair_back, target_back};
 ghost use Rattle.bf_inverse.specs.Wholes.{keep_all, refs_in, refs_of, stand_in_both};
 
 use bf_base::{Column, Memory, Name, Sequence, Table};

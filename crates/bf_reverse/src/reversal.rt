@@ -99,8 +99,8 @@ pub(crate) fn unless_lossy(
     }
 }
 
-/// The way back from a MIGRATE in a catalog: the statements that give back what its old tables were, behind its flip. No
-/// row is looked at. It costs what a plan costs, and for each source the arms of the targets.
+/// The way back from a MIGRATE in a catalog: the statements that give back what its old tables were, behind its flip.
+/// No row is looked at. It costs what a plan costs, and for each source the arms of the targets.
 ///
 /// # Errors
 /// Where memory runs out.

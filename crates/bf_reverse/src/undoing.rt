@@ -45,8 +45,8 @@ fn oversize(alloc: Global, database: &Eager, sources: &[Name]) -> Result<Option<
     Ok(None)
 }
 
-/// The way back from a MIGRATE on a database: as `reverse` in its catalog, where the rows have nothing against the MIGRATE
-/// either. Else the first refusal. No row is read.
+/// The way back from a MIGRATE on a database: as `reverse` in its catalog, where the rows have nothing against the
+/// MIGRATE either. Else the first refusal. No row is read.
 ///
 /// # Errors
 /// Where memory runs out.
@@ -87,8 +87,8 @@ fn run_each(
 }
 
 /// Runs a MIGRATE and then takes it back, and answers the replies to it and to each statement of its inverse. The
-/// database is the former one then, but for the numbers of its schema changes and of its commits. `None` comes where the
-/// MIGRATE is refused, or an old table is not whole in the new ones; nothing is run then.
+/// database is the former one then, but for the numbers of its schema changes and of its commits. `None` comes where
+/// the MIGRATE is refused, or an old table is not whole in the new ones; nothing is run then.
 ///
 /// It costs what the MIGRATE and its inverse cost.
 ///

@@ -86,8 +86,8 @@ fn told<I: Source>(alloc: Global, words: &[&str], input: &mut I) -> Result<Told,
 /// MIGRATE, runs its groups before that over an empty database, one session after the other, and writes the statements
 /// that take the MIGRATE back, each on a line that ends with `;`. Other words are not served.
 ///
-/// The whole text is made before its first byte is written, so want of memory is answered with nothing written. It costs
-/// what the statements before the MIGRATE cost; of the tables of the MIGRATE no row is read.
+/// The whole text is made before its first byte is written, so want of memory is answered with nothing written. It
+/// costs what the statements before the MIGRATE cost; of the tables of the MIGRATE no row is read.
 pub fn run_reverse<I: Source, O: Sink>(
     alloc: Global,
     words: &[&str],

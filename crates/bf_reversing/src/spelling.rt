@@ -1,7 +1,8 @@
 //! The statements of an inverse as they are written.
 
 ghost use Rattle.std.specs.Prelude.{◌≡◌, ◌++◌, ℕ, List, map, flat_map, OnOk, codes};
-ghost use Rattle.bf_reversing.specs.Spellings.{arm_text, item_text, join_text, line_text, named_text, pair_text, ref_text, statement_text, statements_text, target_text, with_between};
+ghost use Rattle.bf_reversing.specs.Spellings.{arm_text, item_text, join_text, line_text, named_text};
+ghost use Rattle.bf_reversing.specs.Spellings.{pair_text, ref_text, statement_text, statements_text, target_text, with_between};
 
 use bf_base::{Memory, Name, Sequence};
 use bf_tree::{Arm, Item, Join, RawExpr, RawNode, Ref, Statement, Target};

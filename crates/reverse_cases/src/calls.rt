@@ -1,9 +1,9 @@
 //! Calls of `reverse` over bytes in memory.
 //!
-//! Lines in front of a script tell of another call: `$ words WORDS` has these words in the place of `reverse`, of which `''`
-//! is the empty one; `$ fail read N` and `$ fail write N` let the N-th read or write fail; and `$ byte N COUNT` puts as
-//! many bytes with this number behind the script. In the script a line `% FIRST LAST TEXT` stands for as many lines as
-//! there are numbers from FIRST to LAST, each the text with the number in the place of its `#`.
+//! Lines in front of a script tell of another call: `$ words WORDS` has these words in the place of `reverse`, of
+//! which `''` is the empty one; `$ fail read N` and `$ fail write N` let the N-th read or write fail; and `$ byte N
+//! COUNT` puts as many bytes with this number behind the script. In the script a line `% FIRST LAST TEXT` stands for
+//! as many lines as there are numbers from FIRST to LAST, each the text with the number in the place of its `#`.
 
 use crate::narrow::Narrow;
 use crate::regained::expect_regained;

@@ -225,7 +225,8 @@ fn expect_taken_back(alloc: Global, script: &str) -> anyhow::Result<()> {
     expect_regained(alloc, script.as_bytes(), output.bytes())
 }
 
-/// Takes back the MIGRATEs of random scripts, and tells what they have tried. Fails at the first that is not taken back.
+/// Takes back the MIGRATEs of random scripts, and tells what they have tried. Fails at the first that is not taken
+/// back.
 pub fn take_back_random(alloc: Global) -> anyhow::Result<Counts> {
     let mut counts = Counts {
         split: 0,
