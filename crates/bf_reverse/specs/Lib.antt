@@ -1,3 +1,2 @@
 pub mod Planned
 pub mod Reversals
-pub mod Runs

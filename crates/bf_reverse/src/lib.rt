@@ -5,8 +5,6 @@
 mod copied;
 mod inverse;
 pub mod reversal;
-pub mod undoing;
 mod whole;
 
-pub use reversal::{Reversal, reverse};
-pub use undoing::{reverse_on, undo};
+pub use reversal::{Reversal, reverse, unless_lossy};

@@ -74,11 +74,11 @@ fn with_indexes(
     Ok(statements)
 }
 
-/// The way back from a MIGRATE of whose plan the catalog allows all.
+/// The way back from a MIGRATE that the catalog allows, by its plan.
 ///
 /// # Errors
 /// Where memory runs out.
-pub(crate) fn unless_lossy(
+pub fn unless_lossy(
     alloc: Global,
     plan: &Plan,
     catalog: &Catalog,

@@ -6,11 +6,12 @@ ghost use Rattle.bf_reversing.specs.Outcomes.{IsOutcome};
 use crate::before::{database_before, last_statement, leave_block};
 use crate::spelling::put_statements;
 use crate::status::{ReverseStatus, Told, told_fault, told_lossy, told_no_migrate, told_refused};
+use crate::undoing::reverse_on;
 use bf_base::{LONGEST_SCRIPT, Memory};
 use bf_io::{ReadError, Sink, Source, read_all, write_whole};
 use bf_lex::{ScriptError, ScriptFault, ScriptKind};
 use bf_parse::script;
-use bf_reverse::{Reversal, reverse_on};
+use bf_reverse::Reversal;
 use bf_tree::{Refusal, Script, Statement};
 use std::alloc::Global;
 

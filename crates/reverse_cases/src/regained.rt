@@ -4,7 +4,7 @@ use crate::seen::{run, seen_of};
 use anyhow::bail;
 use bf_eager::{Eager, is_narrow};
 use bf_parse::script;
-use bf_reverse::undo;
+use bf_reversing::undo;
 use bf_tree::{Migrate, Reply, Script, Statement};
 use std::alloc::Global;
 

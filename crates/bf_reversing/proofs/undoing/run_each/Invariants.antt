@@ -1,6 +1,6 @@
 use Rattle.std.proofs.Common.{◌≡◌, ◌++◌, take}
-use Rattle.bf_reverse.specs.Runs.{ran_each}
-use Rattle.bf_reverse.proofs.undoing.run_each.Given as goal
+use Rattle.bf_reversing.specs.Runs.{ran_each}
+use Rattle.bf_reversing.proofs.undoing.run_each.Given as goal
 
 -- the statements so far have run
 abbrev pub invariant-loop-statement : goal.invariant-loop-statement

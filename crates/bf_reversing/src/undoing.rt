@@ -9,12 +9,12 @@ ghost use Rattle.bf_sql.specs.RowObjections.{first_oversize};
 ghost use Rattle.bf_eager.specs.Eager.{IsWholeGroup};
 ghost use Rattle.bf_reverse.specs.Reversals.{reversal_on};
 ghost use Rattle.bf_inverse.specs.Undone.{HasArms, HasCreatedIndexes};
-ghost use Rattle.bf_reverse.specs.Runs.{HasRun, HasRunFront, IsUndoAnswer, ran_each};
+ghost use Rattle.bf_reversing.specs.Runs.{HasRun, HasRunFront, IsUndoAnswer, ran_each};
 
-use crate::reversal::{Reversal, unless_lossy};
 use bf_base::{MOST_ROWS, Memory, Name};
 use bf_eager::Eager;
 use bf_plan::plan;
+use bf_reverse::{Reversal, unless_lossy};
 use bf_tree::{Migrate, Refusal, Reply, Statement};
 use std::alloc::Global;
 use std::slice;

@@ -16,7 +16,7 @@ use Rattle.bf_sql.specs.migrations.MigrationObjections.{migrate_objections, sour
 use Rattle.bf_eager.specs.Eager.{Ran, ran_entry}
 use Rattle.bf_inverse.specs.Inverses.{inverse_of}
 use Rattle.bf_inverse.specs.Undone.{CanBeUndone, HasArms, HasCreatedIndexes, IsTakenBack, is_refusal, run_each, there_and_back, undone}
-use Rattle.bf_reverse.specs.Runs.{HasRun, HasRunFront, HasUndone, ran_each}
+use Rattle.bf_reversing.specs.Runs.{HasRun, HasRunFront, HasUndone, ran_each}
 use Rattle.bf_inverse.proofs.Reindexed.{ran_one}
 use Rattle.bf_inverse.proofs.TakenBack.{inverse_takes_back}
 use Rattle.bf_inverse.proofs.Wholly.{few_rows, unobjected}

@@ -1,6 +1,6 @@
 use Rattle.std.proofs.Common.{◌≡◌, drop}
 use Rattle.bf_sql.specs.RowObjections.{first_oversize}
-use Rattle.bf_reverse.proofs.undoing.oversize.Given as goal
+use Rattle.bf_reversing.proofs.undoing.oversize.Given as goal
 
 -- the names so far have no objection
 abbrev pub invariant-loop-name : goal.invariant-loop-name
