@@ -1,3 +1,4 @@
+pub mod Chosen
 pub mod Found
 pub mod Placing
 pub mod Walks

@@ -2,13 +2,14 @@
 
 ghost use Rattle.std.specs.List.{list_all};
 ghost use Rattle.std.specs.Option.{option_copied, option_map};
-ghost use Rattle.std.specs.Prelude.{◌≡◌, ◌<◌, ◌≤◌, ◌==◌, IfOk, IsTrue, find, length, map};
+ghost use Rattle.std.specs.Prelude.{◌≡◌, ◌<◌, ◌≤◌, ◌==◌, IfOk, IsTrue, find, length, map, nat_lt};
 ghost use Rattle.bf_base.specs.Limits.{most_columns};
 ghost use Rattle.bf_sql.specs.Database.{is_within};
 ghost use Rattle.bf_inverse.specs.Inverses.{arm_back, first_ref, index_on, item_back};
 ghost use Rattle.bf_inverse.specs.Inverses.{join_back, names_at, pair_back, target_back};
 ghost use Rattle.bf_inverse.specs.Wholes.{keep_all, refs_in, refs_of, stand_in_both};
 
+use crate::whole::count_in;
 use bf_base::{Column, Memory, Name, Sequence, Table};
 use bf_inverse::Copied;
 use bf_tree::{Arm, IndexRule, Item, Join, RawExpr, RawNode, Ref, Statement, Target};
@@ -38,15 +39,20 @@ fn ref_in(alloc: Global, copied: &Copied, place: u8) -> Result<Ref, Memory>
     })
 }
 
+/// The first of some targets that copies the column at a place.
+fn copy_with(copies: &[Copied], place: u8) -> Option<&Copied>
+    ensures { option_copied result
+        ≡ find (λ copied. nat_lt 0 (length (refs_in place copied))) copies.now }
+{
+    copies.iter().find(|copied| 0 < count_in(copied, place))
+}
+
 /// The first column of some targets that copies the column at a place.
 fn ref_of(alloc: Global, copies: &[Copied], place: u8) -> Result<Ref, Memory>
     requires { 0 < length (refs_of copies.now place) }
     ensures { IfOk result (λ found. found ≡ first_ref (refs_of copies.now place)) }
 {
-    let copied = copies
-        .iter()
-        .find(|copied| name_in(copied, place).is_some())
-        .unwrap();
+    let copied = copy_with(copies, place).unwrap();
     ref_in(alloc, copied, place)
 }
 
@@ -95,7 +101,8 @@ fn pairs_back(
 
 /// The JOIN of an old table that stands in two targets.
 fn join_back(alloc: Global, table: &Table, copies: &[Copied]) -> Result<Option<Join>, Memory>
-    requires { IsTrue (keep_all table.now copies.now) }
+    requires keep { IsTrue (keep_all table.now copies.now) }
+    requires within { IsTrue (is_within table.now table.now.key) }
     ensures { IfOk result (λ join. join ≡ join_back table.now copies.now) }
 {
     let [first, second, ..] = copies else {
@@ -114,6 +121,7 @@ fn join_back(alloc: Global, table: &Table, copies: &[Copied]) -> Result<Option<J
 /// Where memory runs out.
 pub(crate) fn target_back(alloc: Global, table: &Table, copies: &[Copied]) -> Result<Target, Memory>
     requires keep { IsTrue (keep_all table.now copies.now) }
+    requires within { IsTrue (is_within table.now table.now.key) }
     requires narrow { length table.now.columns ≤ most_columns }
     ensures { IfOk result (λ target. target ≡ target_back table.now copies.now) }
 {

@@ -33,6 +33,7 @@ type TargetsBack = Result<Sequence<Target>, Name>;
 
 /// A target for each source, or the first source that is not whole.
 fn targets_back(alloc: Global, plan: &Plan, catalog: &Catalog) -> Result<TargetsBack, Memory>
+    requires database { IsDatabase (without_rows catalog.now) }
     requires sources { IsTrue (list_all (λ s. is_some (table_named catalog.now s)) plan.now.sources) }
     requires narrow { HasNarrowTables catalog.now }
     ensures { IfOk result (λ targets. targets
