@@ -99,7 +99,7 @@ fn picked(
 }
 
 /// The granules that an action needs.
-fn needed(
+pub(crate) fn needed(
     alloc: Global,
     migration: &Migration,
     indexes: &ValueIndexes,

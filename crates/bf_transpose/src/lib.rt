@@ -1,7 +1,9 @@
 //! Which granules of a migration a statement needs moved before it runs.
 #![tactic(auto)]
 
+pub mod among;
 mod bounds;
+pub mod by_key;
 mod condition;
 pub mod cover;
 mod drivers;
@@ -12,4 +14,6 @@ mod scan;
 mod target;
 mod transposed;
 
+pub use among::{candidates_of, cover_among, without};
+pub use by_key::candidates;
 pub use cover::{Cover, can_need, cover_of};
