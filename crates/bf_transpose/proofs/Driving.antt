@@ -28,7 +28,7 @@ use Rattle.bf_image.proofs.finding.Owner.{looked_up}
 abbrev numbered : (UnitForm → List Place) → ℕ → List UnitForm → List Granule
 numbered places n units = flat_map (λ u. map (granule u.0) (places u.1)) (enumerate_from n units)
 
-of_number : (k : ℕ) (j : ℕ) (place : Place) (ps : List Place) → has same_granule (map (granule k) ps) (granule j place) ≡ (j == k && has same_place ps place)
+pub of_number : (k : ℕ) (j : ℕ) (place : Place) (ps : List Place) → has same_granule (map (granule k) ps) (granule j place) ≡ (j == k && has same_place ps place)
 of_number k j place [] = off (j == k)
   where
     off : (b : Bool) → false ≡ (b && false)
@@ -50,7 +50,7 @@ none_below places (u ∷ units) n j place less =
     ∙ (ap₂ (λ b c. b || c) (of_number n j place (places u) ∙ ap (λ b. b && has same_place (places u) place) (other_number j n less)) (none_below places units (n + 1) j place (omega arith)))
 
 -- those of a unit are among all where its places have theirs
-at_unit : (places : UnitForm → List Place) (units : List UnitForm) (n i j : ℕ) (form : UnitForm) (place : Place) → slice_get units i ≡ Some form → n + i ≡ j
+pub at_unit : (places : UnitForm → List Place) (units : List UnitForm) (n i j : ℕ) (form : UnitForm) (place : Place) → slice_get units i ≡ Some form → n + i ≡ j
     → has same_granule (numbered places n units) (granule j place) ≡ has same_place (places form) place
 at_unit places [] n i j form place at sum = absurd cc
 at_unit places (u ∷ units) n zero j form place at sum =

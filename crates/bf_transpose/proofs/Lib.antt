@@ -1,5 +1,6 @@
 mod Alike
 mod Bounded
+pub mod Candidates
 mod Carried
 mod Chosen
 mod Coming
@@ -20,6 +21,7 @@ pub mod Named
 pub mod Numbered
 mod Outside
 pub mod Owners
+pub mod Paired
 mod Ranged
 mod Rising
 mod Sought

@@ -1,0 +1,1 @@
+use Rattle.bf_transpose.proofs.by_key.candidates.Goals as goal
