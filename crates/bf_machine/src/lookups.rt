@@ -194,8 +194,13 @@ pub fn cover_with<N: Opened>(
     let Some(pass) = migration else {
         return cover_of(alloc, bound, None);
     };
+    // Its contract says what a machine keeps.
+    let _ = machine.script();
     let last = registry.migration(pass);
-    if machine.is_complete() || !can_need(bound, last) {
+    if machine.is_complete() {
+        return Ok(nothing(alloc, bound, last));
+    }
+    if !can_need(bound, last) {
         return Ok(nothing(alloc, bound, last));
     }
     if let Some(cover) = cover_by_keys(alloc, registry, lookups, machine, pass, bound)? {
