@@ -1,6 +1,5 @@
 mod Alike
 mod Bounded
-pub mod Candidates
 mod Carried
 mod Chosen
 mod Coming
@@ -18,10 +17,12 @@ mod Listed
 mod Looked
 mod Merging
 pub mod Named
+pub mod Needed
 pub mod Numbered
 mod Outside
 pub mod Owners
 pub mod Paired
+pub mod Possible
 mod Ranged
 mod Rising
 mod Sought

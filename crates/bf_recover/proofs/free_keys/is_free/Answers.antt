@@ -22,3 +22,6 @@ pub returns-then-not-is_running-clause-free : goal.returns-then-not-is_running-c
 returns-then-not-is_running-clause-free c =
     let lazy = c.args.store.now.lazy in
     sym (free_if_none_pending lazy.last (table_at lazy.live c.args.table.now) c.args.key.now (c.is_running.ensures c.if-not-is_running.true))
+
+pub returns-then-is_empty-clause-free : goal.returns-then-is_empty-clause-free
+returns-then-is_empty-clause-free c = ?
