@@ -13,6 +13,7 @@ pub mod Granules
 mod Grouped
 pub mod Inserted
 pub mod Keyed
+mod Left
 mod Listed
 mod Looked
 mod Merging
@@ -25,6 +26,7 @@ pub mod Paired
 pub mod Possible
 mod Ranged
 mod Rising
+mod Sets
 mod Sought
 mod Steps
 pub mod Told
