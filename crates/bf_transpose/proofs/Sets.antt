@@ -93,6 +93,13 @@ module _ (test : Granule → Bool) where
   pub one_picked : (o : Option Granule) (g : Granule) → Some g ≡ o → (b : Bool) → b ≡ test g → cond b (g ∷ []) [] ≡ filter test (option_to_list o)
   one_picked o g is b tested = ap (λ c. cond c (g ∷ []) []) tested ∙ ap (λ p. filter test (option_to_list p)) is
 
+shared : (a b c : Bool) → ((a && c) || (b && c)) ≡ ((a || b) && c)
+shared true true true = refl
+shared true true false = refl
+shared true false true = refl
+shared true false false = refl
+shared false b c = refl
+
 -- what passes both of two tests
 module _ {K : Type 0} where
   filter_both : (l p : K → Bool) (xs : List K) → filter l (filter p xs) ≡ filter (λ x. p x && l x) xs
@@ -103,13 +110,6 @@ module _ {K : Type 0} where
           → filter l (cond a (x ∷ filter p xs) (filter p xs)) ≡ cond (a && l x) (x ∷ filter (λ x. p x && l x) xs) (filter (λ x. p x && l x) xs)
       of true b rest = ap (λ ys. cond (l x) (x ∷ ys) ys) rest
       of false b rest = rest
-
-  shared : (a b c : Bool) → ((a && c) || (b && c)) ≡ ((a || b) && c)
-  shared true true true = refl
-  shared true true false = refl
-  shared true false true = refl
-  shared true false false = refl
-  shared false b c = refl
 
   module _ {cmp : K → K → Ordering} (o : IsTotalOrder cmp) (p q l : K → Bool) (xs : List K) where
     either_both : filter (λ x. (p x && l x) || (q x && l x)) xs ≡ filter l (filter (λ x. p x || q x) xs)

@@ -171,6 +171,24 @@ fn among(
     Ok(kept)
 }
 
+/// Those of some granules that a set has not, in the order in which they are told.
+fn beside(
+    alloc: Global,
+    granules: Vec<Granule>,
+    set: &BTreeSet<Granule>,
+) -> Result<Vec<Granule>, Memory>
+    ensures { IfOk result (λ kept. kept.items
+        ≡ filter (λ g. not (has same_granule (keys set.now) g)) granules.items) }
+{
+    let mut kept = Vec::new(alloc);
+    for granule in granules {
+        if !is_in(set, &granule) {
+            kept.push(granule)?;
+        }
+    }
+    Ok(kept)
+}
+
 /// Those of some granules that are not among others, in the order in which they are told. It compares each
 /// with about log n of the others.
 ///
@@ -185,12 +203,7 @@ pub fn without(
         ≡ filter (λ g. not (has same_granule others.now g)) granules.items) }
 {
     let set = set_of(alloc, others)?;
-    let mut kept = Vec::new(alloc);
-    for granule in granules {
-        if !is_in(&set, &granule) {
-            kept.push(granule)?;
-        }
-    }
+    let kept = beside(alloc, granules, &set)?;
     Ok(kept)
 }
 

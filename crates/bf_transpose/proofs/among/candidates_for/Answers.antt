@@ -1,5 +1,6 @@
-use Rattle.std.proofs.Common.{◌≡◌, ◌++◌, flat_map, take, sym, ap, ◌∙◌}
+use Rattle.std.proofs.Common.{◌≡◌, ◌++◌, flat_map, take, [], sym, ap, ◌∙◌, arith}
 use Rattle.std.specs.Option.{option_map_or}
+use Rattle.std.proofs.lemmas.List.{take_all}
 use Rattle.bf_transpose.specs.Candidates.{candidates_in}
 use Rattle.bf_transpose.proofs.Possible.{blocks_next}
 use Rattle.bf_transpose.proofs.among.candidates_for.Goals as goal
@@ -20,4 +21,9 @@ loop-key-preserved c =
     ∙ blocks_next f keys i c.key-item.result c.loop-key-test.true
 
 pub returns : goal.returns
-returns c = ?
+returns c =
+    let f = candidates_in c.args.migration.now c.in-Some.target in
+    let keys = c.args.keys.now in
+    c.loop-key.invariant
+    ∙ ap (flat_map f) (take_all c.loop-key.key-index keys (omega (arith, c.loop-key-test.false)))
+    ∙ ap (λ o. option_map_or (λ target. flat_map (candidates_in c.args.migration.now target) keys) o []) c.in-Some.ensures.place
