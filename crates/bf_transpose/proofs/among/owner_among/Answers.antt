@@ -1,4 +1,5 @@
 use Rattle.std.proofs.Common.{◌≡◌, Some, false, true, filter, sym, ap, ◌∙◌}
+use Rattle.std.specs.List.{list_any}
 use Rattle.std.specs.Option.{option_to_list}
 use Rattle.bf_base.specs.Lists.{has}
 use Rattle.bf_sql.specs.migrations.Granules.{same_granule}
@@ -8,7 +9,9 @@ use Rattle.bf_transpose.proofs.among.owner_among.Goals as goal
 
 -- none of the candidates is left
 pub returns-then-not-has_any : goal.returns-then-not-has_any
-returns-then-not-has_any c = ?
+returns-then-not-has_any c =
+    none_picked (has same_granule c.args.left.now.keys) c.in_ok-candidates.candidates.items (owner_in c.args.migration.now c.args.table.now.name c.args.key.now) c.in_ok-candidates.ensures.owner
+    (ap (list_any (has same_granule c.args.left.now.keys)) (sym c.deref.ensures.value) ∙ (sym c.has_any.ensures ∙ c.if-not-has_any.true))
 
 -- no granule owns the key
 pub returns-in_default : goal.returns-in_default
