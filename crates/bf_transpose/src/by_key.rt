@@ -165,7 +165,7 @@ fn candidate(
 }
 
 /// Adds the granules from which a row with a key of a target can come, one of each unit at most.
-pub(crate) fn add_candidates(
+pub fn add_candidates(
     alloc: Global,
     migration: &Migration,
     target: u8,

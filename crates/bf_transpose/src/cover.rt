@@ -114,7 +114,7 @@ fn picked(
 }
 
 /// The granules that an action needs.
-pub(crate) fn needed(
+pub fn needed(
     alloc: Global,
     migration: &Migration,
     indexes: &ValueIndexes,
