@@ -1,6 +1,6 @@
 //! The old rows of a migration by their values, kept while it is the last one.
 
-ghost use Rattle.std.specs.Prelude.{◌≡◌, [], IfOk, IfSome, IsTrue, OnOk, Some};
+ghost use Rattle.std.specs.Prelude.{◌≡◌, IfOk, IfSome, IsTrue, OnOk, Some};
 ghost use Rattle.std.specs.Option.{option_map};
 ghost use Rattle.boxcar.specs.Table.{Shows};
 ghost use Rattle.bf_image.specs.Migrations.{value_indexes};
@@ -11,8 +11,9 @@ ghost use Rattle.bf_machine.specs.interleaving.Calls.{IsEnough};
 use crate::machine::Machine;
 use crate::opened::Opened;
 use bf_base::Memory;
-use bf_image::{Migration, MigrationPass, Registry, ValueIndexes};
-use bf_transpose::{Cover, can_need, candidates_of, cover_among, cover_of};
+use bf_candidates::{candidates_of, cover_among};
+use bf_image::{MigrationPass, Registry, ValueIndexes};
+use bf_transpose::{Cover, can_need, cover_of};
 use bf_tree::Bound;
 use std::alloc::Global;
 use std::marker::{Model, PhantomData};
@@ -122,17 +123,6 @@ pub fn look_up<N: Opened>(
     Ok(())
 }
 
-/// A cover of no granules.
-fn nothing(alloc: Global, bound: &Bound, last: &Migration) -> Cover
-    ensures { result.granules.items ≡ [] }
-{
-    Cover {
-        catalog: bound.catalog,
-        migration: last.number,
-        granules: Vec::new(alloc),
-    }
-}
-
 /// What is enough of a bound statement's cover, as far as the keys that the statement fixes tell; none where
 /// it fixes no key. Nothing is looked for where each granule has moved from which rows with its keys can come;
 /// else the look-ups of the migration are kept.
@@ -157,7 +147,7 @@ fn cover_by_keys<N: Opened>(
     };
     let left = machine.need(alloc, &candidates)?;
     if left.is_empty() {
-        return Ok(Some(nothing(alloc, bound, last)));
+        return Ok(Some(Cover::empty(alloc, bound, last)));
     }
     look_up(alloc, registry, lookups, pass)?;
     let Some(found) = lookups else {
@@ -198,10 +188,10 @@ pub fn cover_with<N: Opened>(
     let _ = machine.script();
     let last = registry.migration(pass);
     if machine.is_complete() {
-        return Ok(nothing(alloc, bound, last));
+        return Ok(Cover::empty(alloc, bound, last));
     }
     if !can_need(bound, last) {
-        return Ok(nothing(alloc, bound, last));
+        return Ok(Cover::empty(alloc, bound, last));
     }
     if let Some(cover) = cover_by_keys(alloc, registry, lookups, machine, pass, bound)? {
         return Ok(cover);

@@ -61,7 +61,8 @@ pub(crate) fn is_free(
     };
     let last = registry.migration(&pass);
     let candidates = candidates(alloc, last, table, key)?;
-    if store.need(alloc, &candidates)?.is_empty() {
+    let left = store.need(alloc, &candidates)?;
+    if left.is_empty() {
         return Ok(true);
     }
     look_up(alloc, registry, &pass, indexes)?;

@@ -96,7 +96,7 @@ module _ (p : Granule → Bool) (g : Granule) (is : p g ≡ true) where
           let same : g ≡ h = same_granule-equal g h (alone_true _ (sym (ap (λ zs. has same_granule zs g) (one ∙ ap option_to_list e)) ∙ kept xs there)) in
           e ∙ ap Some (sym same)
 
-found_has : (p : Granule → Bool) (xs : List Granule) (g : Granule) → find p xs ≡ Some g → has same_granule xs g ≡ true
+pub found_has : (p : Granule → Bool) (xs : List Granule) (g : Granule) → find p xs ≡ Some g → has same_granule xs g ≡ true
 found_has p [] g e = absurd cc
 found_has p (x ∷ xs) g e = at (p x) (found_has p xs g) e
   where

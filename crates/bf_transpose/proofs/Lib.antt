@@ -13,12 +13,10 @@ pub mod Granules
 mod Grouped
 pub mod Inserted
 pub mod Keyed
-mod Left
 mod Listed
 mod Looked
 mod Merging
 pub mod Named
-pub mod Needed
 pub mod Numbered
 mod Outside
 pub mod Owners
@@ -26,7 +24,6 @@ pub mod Paired
 pub mod Possible
 mod Ranged
 mod Rising
-mod Sets
 mod Sought
 mod Steps
 pub mod Told

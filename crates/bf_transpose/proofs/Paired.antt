@@ -106,12 +106,12 @@ module _ (m : Migration) (unit : ℕ) (bound : FrozenArm) (of_unit : IsOfUnit m 
     none_by_pair none = place_by_arm m unit bound.target key bound [] of_unit refl (λ arm frozen. ap (map Group) (values_if_nowhere arm frozen none))
 
     -- one has it
+    abbrev of_form : Option UnitForm → List Granule
+    of_form o = unwrap_or (option_map (λ form. map (granule unit) (places_by old t key form)) o) []
+
     pub by_pair : (at : ℕ) → sought ≡ Some at → Comes (option_to_list (anchored_at m unit at))
     by_pair at is = of (unit_at m unit) of_unit
       where
-        abbrev of_form : Option UnitForm → List Granule
-        of_form o = unwrap_or (option_map (λ form. map (granule unit) (places_by old t key form)) o) []
-
         of : (o : Option UnitForm) → IsOfUnit m o (Some bound) → option_to_list (option_and_then (λ u. option_map (granule unit) (slice_get (anchors_of old u) at)) o) ≡ of_form o
         of None bad = absurd bad
         of (Some (rows_unit driver)) bad = absurd bad

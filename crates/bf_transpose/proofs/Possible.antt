@@ -21,7 +21,7 @@ use Rattle.bf_tree.specs.declared.migration.Migrate.{Migrate}
 use Rattle.bf_tree.specs.declared.migration.Target.{Target}
 use Rattle.bf_tree.specs.declared.plan.Unit.{Unit as Planned}
 use Rattle.bf_sql.specs.Database.{Database}
-use Rattle.bf_sql.specs.migrations.Granules.{UnitForm, granule, granules_of, part_at, part_in, places_in, same_granule, same_place, units_of}
+use Rattle.bf_sql.specs.migrations.Granules.{UnitForm, granule, granules_of, owner_of, part_at, part_in, places_in, same_granule, same_place, units_of}
 use Rattle.bf_sql.specs.migrations.Targets.{target_table}
 use Rattle.bf_image.specs.Laws.{owns}
 use Rattle.bf_image.specs.Lookup.{places_by}
@@ -31,7 +31,8 @@ use Rattle.bf_image.specs.declared.migration.Migration.{Migration}
 use Rattle.bf_image.proofs.finding.Found.{same_granule-itself}
 use Rattle.bf_transpose.specs.Candidates.{candidate_in, candidates_in}
 use Rattle.bf_transpose.specs.Scans.{gives, has_arm}
-use Rattle.bf_transpose.proofs.Driving.{at_unit, of_number, owned_place}
+use Rattle.bf_transpose.proofs.Driving.{at_unit, found_has, of_number, owned_place}
+use Rattle.bf_transpose.proofs.Finding.{found_passes}
 use Rattle.bf_transpose.proofs.Keyed.{any_of_both, any_so}
 use Rattle.bf_transpose.proofs.Sought.{none_at_place}
 
@@ -95,6 +96,12 @@ module _ (m : Migration) (lawful : IsLawfulMigration m) (target : ℕ) (there : 
   -- a granule that has a row with a key is a candidate of it
   pub owner_is_candidate : (key : List Value) (g : Granule) → has same_granule (granules_of old q) g ≡ true → owns old q t key g ≡ true → has same_granule (candidates_in m target key) g ≡ true
   owner_is_candidate key g among own = is_candidate key g.unit g.place own among
+
+  -- so is the owner of a key, if it has one
+  pub owner_among : (key : List Value) (o : Option Granule) → o ≡ owner_of old q t key → IfSome o (λ g. IsTrue (has same_granule (candidates_in m target key) g))
+  owner_among key None is = tt
+  owner_among key (Some g) is =
+      owner_is_candidate key g (found_has (owns old q t key) (granules_of old q) g (sym is)) (found_passes (owns old q t key) (granules_of old q) g (sym is))
 
   -- and one with a row that has one of some keys a candidate of them
   pub one_is_candidate : (keys : List (List Value)) (g : Granule) → has same_granule (granules_of old q) g ≡ true

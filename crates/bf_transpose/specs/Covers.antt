@@ -1,12 +1,10 @@
 -- COVERS: the granules that a bound statement needs moved.
-use Rattle.std.specs.Prelude.{◌≡◌, Bool, true, false, not, List, [], filter, Option, Some, None, is_some}
+use Rattle.std.specs.Prelude.{◌≡◌, Bool, true, false, List, [], Option, Some, None, is_some}
 use Rattle.std.specs.Option.{option_map_or}
 use Rattle.bf_base.specs.declared.granule.Granule.{Granule}
-use Rattle.bf_base.specs.Lists.{has}
 use Rattle.bf_tree.specs.declared.bound.Action.{Action}
 use Rattle.bf_tree.specs.declared.bound.Action.TheVariants as action
 use Rattle.bf_tree.specs.declared.bound.Bound.{Bound}
-use Rattle.bf_sql.specs.migrations.Granules.{same_granule}
 use Rattle.bf_sql.specs.migrations.Need.{needed_for, target_of}
 use Rattle.bf_live.specs.Replies.{action_table}
 use Rattle.bf_image.specs.Migrations.{IsLawfulMigration, old_of, value_indexes}
@@ -24,12 +22,6 @@ pub record IsCoverOf (last : Option Migration) (bound : Bound) (cover : Cover) :
   pub catalog : cover.catalog ≡ bound.catalog
   pub migration : cover.migration ≡ option_map_or (λ m. m.number) last 0
   pub granules : cover.granules.items ≡ needed_in last bound.action
-
--- AMONG: of the need those granules alone that are among some
-pub record IsCoverAmong (last : Option Migration) (bound : Bound) (left : List Granule) (cover : Cover) : Type 0 where
-  pub catalog : cover.catalog ≡ bound.catalog
-  pub migration : cover.migration ≡ option_map_or (λ m. m.number) last 0
-  pub granules : cover.granules.items ≡ filter (has same_granule left) (needed_in last bound.action)
 
 -- a migration, if there is one, is lawful, and stands with the rows of its old tables by their values
 abbrev pub IsFound : Option (Migration × List (Option UnitIndex)) → Type 0

@@ -165,7 +165,7 @@ fn candidate(
 }
 
 /// Adds the granules from which a row with a key of a target can come, one of each unit at most.
-pub(crate) fn add_candidates(
+pub fn add_candidates(
     alloc: Global,
     migration: &Migration,
     target: u8,
@@ -209,10 +209,10 @@ pub fn candidates(
     ensures owner { IfOk result (λ found.
         HasOwner migration.now table.now key.now found.items) }
 {
+    let Some(place) = place_named(migration.plan.migrate.targets.as_slice(), table) else {
+        return Ok(Vec::new(alloc));
+    };
     let mut found = Vec::new(alloc);
-    let targets = migration.plan.migrate.targets.as_slice();
-    if let Some(place) = place_named(targets, table) {
-        add_candidates(alloc, migration, place as u8, key, &mut found)?;
-    }
+    add_candidates(alloc, migration, place as u8, key, &mut found)?;
     Ok(found)
 }

@@ -1,7 +1,6 @@
 //! Which granules of a migration a statement needs moved before it runs.
 #![tactic(auto)]
 
-pub mod among;
 mod bounds;
 pub mod by_key;
 mod condition;
@@ -9,11 +8,12 @@ pub mod cover;
 mod drivers;
 mod joined;
 mod merge;
-mod owning;
+pub mod owning;
 mod scan;
-mod target;
+pub mod target;
 mod transposed;
 
-pub use among::{candidates_of, cover_among, without};
-pub use by_key::candidates;
-pub use cover::{Cover, can_need, cover_of};
+pub use by_key::{add_candidates, candidates};
+pub use cover::{Cover, can_need, cover_of, needed};
+pub use owning::listed;
+pub use target::target_of;

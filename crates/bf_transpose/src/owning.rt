@@ -45,7 +45,7 @@ fn owners_of(
 }
 
 /// The granules of a set, in order.
-pub(crate) fn listed(alloc: Global, set: BTreeSet<Granule>) -> Result<Vec<Granule>, Memory>
+pub fn listed(alloc: Global, set: BTreeSet<Granule>) -> Result<Vec<Granule>, Memory>
     ensures { IfOk result (λ granules. granules.items ≡ keys set) }
 {
     let mut granules = Vec::with_capacity(alloc, set.len())?;
