@@ -1,7 +1,7 @@
 //! Statements that are made ready outside the lock: bound in the catalog of the moment at which their session stood there, with
 //! their locks and with what they need of the last migration.
 
-ghost use Rattle.std.specs.Prelude.{◌≡◌, [], IfOk, IfSome};
+ghost use Rattle.std.specs.Prelude.{◌≡◌, IfOk, IfSome};
 ghost use Rattle.std.specs.Option.{option_map};
 ghost use Rattle.bf_live.specs.Replies.{IsWellBound};
 ghost use Rattle.bf_store.specs.Stores.{AreIndexesOf, IsOf};
@@ -10,12 +10,13 @@ ghost use Rattle.boxcar.specs.Table.{Shows};
 ghost use Rattle.bf_serve.specs.Requests.{AreCandidatesOf, IsPosition, IsPreparedAt, IsRequest};
 
 use bf_base::{Granule, Memory};
-use bf_image::{CatalogPass, Migration, MigrationPass, Registry, ValueIndexes};
+use bf_candidates::{candidates_of, cover_among, without};
+use bf_image::{CatalogPass, MigrationPass, Registry, ValueIndexes};
 use bf_locks::{LockName, Mode};
 use bf_machine::Opened;
 use bf_plan::prepare;
 use bf_sql::footprint;
-use bf_transpose::{Cover, can_need, candidates_of, cover_among, cover_of, without};
+use bf_transpose::{Cover, can_need, cover_of};
 use bf_tree::{Bound, Script};
 use std::alloc::Global;
 use std::marker::{Model, PhantomData};
@@ -231,18 +232,7 @@ fn cover_at<N: Opened>(
     if can_need(bound, last) {
         return Ok(None);
     }
-    Ok(Some(no_granules(alloc, bound, last)))
-}
-
-/// A cover of no granules.
-fn no_granules(alloc: Global, bound: &Bound, last: &Migration) -> Cover
-    ensures { result.granules.items ≡ [] }
-{
-    Cover {
-        catalog: bound.catalog,
-        migration: last.number,
-        granules: Vec::new(alloc),
-    }
+    Ok(Some(Cover::empty(alloc, bound, last)))
 }
 
 impl<N: Opened> Request<N> {
@@ -274,7 +264,7 @@ impl<N: Opened> Request<N> {
     }
 
     /// The granules among which are all that it needs, as its keys tell; none where it fixes no key, or there is no migration. It
-    /// costs what [`bf_transpose::candidates_of`] does.
+    /// costs what [`bf_candidates::candidates_of`] does.
     ///
     /// # Errors
     /// Where memory runs out.
@@ -334,7 +324,7 @@ impl<N: Opened> Request<N> {
         let Some(pass) = &self.at.migration else {
             return self;
         };
-        let cover = no_granules(alloc, &self.bound, registry.migration(pass));
+        let cover = Cover::empty(alloc, &self.bound, registry.migration(pass));
         Request {
             moved: candidates,
             cover: Some(cover),
@@ -343,7 +333,7 @@ impl<N: Opened> Request<N> {
     }
 
     /// The statement with its cover but for those of its candidates that are not left, by the old rows of the last migration by
-    /// their values. It costs what [`bf_transpose::cover_among`] does, and waits for nobody.
+    /// their values. It costs what [`bf_candidates::cover_among`] does, and waits for nobody.
     ///
     /// # Errors
     /// Where memory runs out.
