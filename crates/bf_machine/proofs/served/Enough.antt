@@ -1,9 +1,10 @@
 -- ENOUGH IS ENOUGH: what is left of it is what is left of the statement's need.
-use Rattle.std.proofs.Common.{◌≡◌, ℕ, Bool, true, false, not, ◌||◌, cond, List, [], ◌∷◌, filter, length, Option, Some, None, refl, sym, ap, ap₂, ◌∙◌, inl, inr}
+use Rattle.std.proofs.Common.{◌≡◌, ◌==◌, arith, ℕ, Bool, true, false, not, ◌||◌, cond, List, [], ◌∷◌, filter, length, Option, Some, None, refl, sym, ap, ap₂, ◌∙◌, inl, inr}
 use Rattle.std.specs.Prelude.{IsSomeAnd, find}
 use Rattle.std.specs.List.{list_all}
 use Rattle.std.specs.Option.{option_map}
 use Rattle.std.proofs.lemmas.Bool.{and_parts, cases_Bool, or_left, or_right}
+use Rattle.std.proofs.lemmas.Bool.Decides.{nat_tests}
 use Rattle.boxcar.specs.Table.{Where}
 use Rattle.bf_base.specs.declared.granule.Granule.{Granule}
 use Rattle.bf_base.specs.Lists.{has}
@@ -87,6 +88,13 @@ none_among None granules need each none = refl
 none_among (Some last) granules need each none =
     none_left_if_done last need
     (all_so (has same_granule granules) (is_done last) (λ g there. has_if_within granules (granules_done last) g (done_if_none_left last granules none) there) need each)
+
+-- a list of no items
+pub nothing_there : (granules : List Granule) (n : ℕ) → (n == 0) ≡ true → n ≡ length granules → granules ≡ []
+nothing_there [] n zero size = refl
+nothing_there (g ∷ gs) n zero size =
+    let none : n ≡ 0 = grind (arith, nat_tests, zero) in
+    absurd (omega (arith, none, size))
 
 -- what passes a test is among those that do
 kept_among : (p : Granule → Bool) (gs : List Granule) (g : Granule) → p g ≡ true → has same_granule gs g ≡ true → has same_granule (filter p gs) g ≡ true

@@ -11,18 +11,12 @@ use Rattle.bf_store.specs.States.{HaveMoved, to_move}
 use Rattle.bf_store.proofs.Calls.{cover_has_moved}
 use Rattle.bf_machine.specs.interleaving.Calls.{IsEnough}
 use Rattle.bf_machine.specs.interleaving.Machines.{Machine}
-use Rattle.bf_machine.proofs.served.Enough.{enough_is_enough}
+use Rattle.bf_machine.proofs.served.Enough.{enough_is_enough, nothing_there}
 use Rattle.bf_machine.proofs.machine.Machine.first_needed.Goals as goal
 
 by_copied : {P : Type 0} (f : P → Kept) (r : Option (Bor P)) → option_map (λ p. f p.now) r ≡ option_map f (option_copied r)
 by_copied f None = refl
 by_copied f (Some p) = refl
-
-nothing_there : (granules : List Granule) (n : ℕ) → (n == 0) ≡ true → n ≡ length granules → granules ≡ []
-nothing_there [] n zero size = refl
-nothing_there (g ∷ gs) n zero size =
-    let none : n ≡ 0 = grind (arith, nat_tests, zero) in
-    absurd (omega (arith, none, size))
 
 pub returns-then-is_empty-clause-moved : goal.returns-then-is_empty-clause-moved
 returns-then-is_empty-clause-moved g c = λ _.
