@@ -1,2 +1,4 @@
 pub mod Behind
 pub mod Loops
+pub mod Numerals
+pub mod Reads

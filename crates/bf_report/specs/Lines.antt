@@ -1,7 +1,8 @@
 -- What a text begins with: a thing by its text, and what stands behind it.
-use Rattle.std.specs.Prelude.{◌≡◌, ℕ, Bool, false, ◌&&◌, ◌||◌, ◌==◌, nat_le, List, [], ◌∷◌, ◌++◌, length, map, flat_map, codes, Option, None, Some, IsTrue}
+use Rattle.std.specs.Prelude.{◌≡◌, ◌↔◌, ◌⊎◌, ℕ, ◌+◌, ◌-◌, ◌*◌, ◌^◌, Bool, false, ◌&&◌, ◌||◌, ◌==◌, if◌then◌else◌, nat_le, nat_lt, List, [], ◌∷◌, ◌++◌, length, map, flat_map, codes, Option, None, Some, option_and_then, IsTrue}
 use Rattle.std.specs.List.{list_all}
 use Rattle.bf_base.specs.Names.{is_digit, is_name, is_name_byte}
+use Rattle.bf_base.specs.Texts.{is_text_byte}
 use Rattle.bf_text.specs.Numbers.{are_u64, is_u64, numbers_in_cause}
 use Rattle.bf_text.specs.Replies.{cause_text, cell_text, listed, newline, numbered, place_text, quoted, reply_text}
 use Rattle.bf_text.specs.Told.{is_named}
@@ -12,27 +13,39 @@ use Rattle.bf_tree.specs.declared.reply.Cell.TheVariants as cells
 use Rattle.bf_tree.specs.declared.reply.Reply.{Reply}
 use Rattle.bf_tree.specs.declared.reply.Reply.TheVariants.{Rows}
 
--- the first byte passes no such test
-abbrev pub ends : (ℕ → Bool) → List ℕ → Type 0
-ends test [] = Unit {0}
-ends test (b ∷ bs) = test b ≡ false
+-- whether the first byte passes a test
+abbrev pub starts : (ℕ → Bool) → List ℕ → Bool
+starts test [] = false
+starts test (b ∷ bs) = test b
 
--- READS: the thing that the bytes begin with, and what stands behind it, where `Ends` holds of that; and none exactly where they
--- begin with no such thing
+-- it passes none
+abbrev pub ends : (ℕ → Bool) → List ℕ → Type 0
+ends test bytes = starts test bytes ≡ false
+
 module _ {X : Type 0} (text : X → List ℕ) (fits : X → Bool) (Ends : List ℕ → Type 0) where
+  -- bytes begin with a thing that fits, and behind it `Ends` holds of the rest
   pub record Begins (bytes : List ℕ) (x : X) (rest : List ℕ) : Type 0 where
     pub fitting : IsTrue (fits x)
     pub behind_it : Ends rest
     pub written : bytes ≡ text x ++ rest
 
-  abbrev pub Reads : List ℕ → Option (X × List ℕ) → Type 0
-  Reads bytes (Some (x, rest)) = Begins bytes x rest
-  Reads bytes None = (x : X) (rest : List ℕ) → Begins bytes x rest → ⊥
+  -- READS: a thing and the rest are answered exactly where the bytes begin with them; so one thing at most, and none exactly where
+  -- they begin with none
+  pub record Reads (bytes : List ℕ) (read : Option (X × List ℕ)) : Type 0 where
+    pub exact : (x : X) (rest : List ℕ) → (read ≡ Some (x, rest)) ↔ Begins bytes x rest
 
-  -- the same, where the thing is not told
-  abbrev pub Passes : List ℕ → Option (List ℕ) → Type 0
-  Passes bytes (Some rest) = (x : X) × Begins bytes x rest
-  Passes bytes None = (x : X) (rest : List ℕ) → Begins bytes x rest → ⊥
+  -- PASSES: the same, where the thing is not told
+  pub record Passes (bytes : List ℕ) (read : Option (List ℕ)) : Type 0 where
+    pub exact : (rest : List ℕ) → (read ≡ Some rest) ↔ ((x : X) × Begins bytes x rest)
+
+-- a number with one digit more; none where it has more than 64 bits
+abbrev pub number_with : ℕ → ℕ → Option ℕ
+number_with value digit = if nat_lt (10 * value + digit) (2 ^ 64) then Some (10 * value + digit) else None
+
+-- the value of the digits that bytes begin with, behind those of a value
+abbrev pub number_behind : ℕ → List ℕ → Option ℕ
+number_behind value [] = Some value
+number_behind value (b ∷ bs) = if is_digit b then option_and_then (λ v. number_behind v bs) (number_with value (b - 48)) else Some value
 
 -- behind a number stands no digit, behind a name no byte of one
 abbrev pub EndsNumber : List ℕ → Type 0
@@ -66,10 +79,10 @@ abbrev pub head_fits : Reply → Bool
 head_fits (Rows rows) = is_u64 (length rows)
 head_fits reply = is_named reply && reply_has_room reply
 
--- READS A HEAD: the first line of a reply with so many rows
-abbrev pub ReadsHead : ℕ → ℕ → List ℕ → Option (ℕ × List ℕ) → Type 0
-ReadsHead s n bytes (Some (count, rest)) = (r : Reply) × Begins (head_text s n) head_fits EndsLine bytes r rest × (count ≡ length (rows_told r))
-ReadsHead s n bytes None = (r : Reply) (rest : List ℕ) → Begins (head_text s n) head_fits EndsLine bytes r rest → ⊥
+-- READS A HEAD: a number of rows and the rest are answered exactly where the bytes begin with the first line of a reply with so many
+pub record ReadsHead (s n : ℕ) (bytes : List ℕ) (read : Option (ℕ × List ℕ)) : Type 0 where
+  pub exact : (count : ℕ) (rest : List ℕ)
+      → (read ≡ Some (count, rest)) ↔ ((r : Reply) × Begins (head_text s n) head_fits EndsLine bytes r rest × (count ≡ length (rows_told r)))
 
 -- the line of a cause
 abbrev pub cause_line_text : ℕ → ℕ → Cause → List ℕ
@@ -88,6 +101,10 @@ table_fits table = is_name table.0 && table_has_room table
 abbrev pub quoted_text : List ℕ → List ℕ
 quoted_text bytes = flat_map quoted bytes ++ codes "'"
 
+-- a text of at most so many bytes
+abbrev pub is_text_within : ℕ → List ℕ → Bool
+is_text_within room bytes = nat_le (length bytes) room && list_all is_text_byte bytes
+
 -- a number that is at most so great
 abbrev pub is_at_most : ℕ → ℕ → Bool
 is_at_most most n = nat_le n most
@@ -95,6 +112,14 @@ is_at_most most n = nat_le n most
 -- what a list of values stands before: the end that closes it
 abbrev pub closed : List ℕ → List Cell → List ℕ
 closed end cells = listed (map cell_text cells) ++ end
+
+-- the same of values behind the first, each behind a comma and a space
+abbrev pub closed_further : List ℕ → List Cell → List ℕ
+closed_further end cells = flat_map (λ y. codes ", " ++ y) (map cell_text cells) ++ end
+
+-- a bracket or a line's end
+abbrev pub IsEnd : List ℕ → Type 0
+IsEnd end = (end ≡ codes ")") ⊎ (end ≡ newline)
 
 -- a cell that is a value, or may be none
 abbrev pub item_has_room : Bool → Cell → Bool

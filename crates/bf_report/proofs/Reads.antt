@@ -1,0 +1,119 @@
+-- Things that are read one behind the other.
+use Rattle.std.proofs.Common.{◌≡◌, ℕ, Bool, true, ◌&&◌, IsTrue, List, ◌++◌, Option, None, Some, refl, sym, ap, ap₂, subst, ◌∙◌, append_assoc}
+use Rattle.std.specs.Option.{option_map}
+use Rattle.std.proofs.lemmas.Bool.{and_from, and_parts}
+use Rattle.std.proofs.lemmas.List.{append_cancel_left}
+use Rattle.std.proofs.lemmas.Option.{none-some, same_Some, some_pair_parts}
+use Rattle.bf_report.specs.Behind.{IsBehind}
+use Rattle.bf_report.specs.Lines.{Begins, EndsLine, Passes, Reads}
+
+-- ---- one thing
+
+module _ {X : Type 0} (text : X → List ℕ) (fits : X → Bool) (Ends : List ℕ → Type 0) (bytes : List ℕ) where
+  pub reads_none : ((x : X) (rest : List ℕ) → Begins text fits Ends bytes x rest → ⊥) → Reads text fits Ends bytes None
+  reads_none none = record { exact = λ x rest. (λ e. absurd (none-some (x, rest) e), λ b. absurd (none x rest b)) }
+
+  pub reads_some : (x : X) (rest : List ℕ) → Begins text fits Ends bytes x rest
+      → ((y : X) (more : List ℕ) → Begins text fits Ends bytes y more → (x ≡ y) × (rest ≡ more)) → Reads text fits Ends bytes (Some (x, rest))
+  reads_some x rest begins only = record { exact = λ y more. (
+      λ e. subst (λ (p : X × List ℕ). Begins text fits Ends bytes p.0 p.1) (same_Some (x, rest) (y, more) e) begins,
+      λ b. let both = only y more b in ap₂ (λ (z : X) (r : List ℕ). Some (z, r)) both.0 both.1) }
+
+module _ {X : Type 0} {text : X → List ℕ} {fits : X → Bool} {Ends : List ℕ → Type 0} {bytes : List ℕ} where
+  -- what was read stands there
+  pub read_begins : {x : X} {rest : List ℕ} → Reads text fits Ends bytes (Some (x, rest)) → Begins text fits Ends bytes x rest
+  read_begins {x} {rest} h = (h.exact x rest).0 refl
+
+  -- and nothing else does
+  pub read_only : {x y : X} {rest more : List ℕ} → Reads text fits Ends bytes (Some (x, rest)) → Begins text fits Ends bytes y more
+      → (x ≡ y) × (rest ≡ more)
+  read_only {x} {y} {rest} {more} h b = some_pair_parts x y rest more ((h.exact y more).1 b)
+
+  pub unread : {y : X} {more : List ℕ} → Reads text fits Ends bytes None → Begins text fits Ends bytes y more → ⊥
+  unread {y} {more} h b = none-some (y, more) ((h.exact y more).1 b)
+
+-- ---- one behind the other
+
+module _ {X Y : Type 0} {t : X → List ℕ} {f : X → Bool} {E : List ℕ → Type 0} {u : Y → List ℕ} {g : Y → Bool} {F : List ℕ → Type 0}
+    {bytes : List ℕ} where
+  -- what may stand behind the first stands there, where the second does
+  abbrev pub Opens : Type 0
+  Opens = (y : Y) (rest : List ℕ) → IsTrue (g y) → F rest → E (u y ++ rest)
+
+  abbrev pub ReadsBoth : Option ((X × Y) × List ℕ) → Type 0
+  ReadsBoth r = Reads (λ (p : X × Y). t p.0 ++ u p.1) (λ p. f p.0 && g p.1) F bytes r
+
+  abbrev BeginsBoth : X × Y → List ℕ → Type 0
+  BeginsBoth p rest = Begins (λ (p : X × Y). t p.0 ++ u p.1) (λ p. f p.0 && g p.1) F bytes p rest
+
+  first_of : Opens → (p : X × Y) (rest : List ℕ) → BeginsBoth p rest → Begins t f E bytes p.0 (u p.1 ++ rest)
+  first_of opens p rest b =
+      let parts = and_parts (f p.0) (g p.1) b.fitting in
+      record { fitting = parts.0; behind_it = opens p.1 rest parts.1 b.behind_it; written = b.written ∙ append_assoc (t p.0) (u p.1) rest }
+
+  second_of : Opens → (x : X) (behind : List ℕ) → Reads t f E bytes (Some (x, behind)) → (p : X × Y) (rest : List ℕ) → BeginsBoth p rest
+      → (x ≡ p.0) × Begins u g F behind p.1 rest
+  second_of opens x behind h p rest b =
+      let both = read_only h (first_of opens p rest b) in
+      (both.0, record { fitting = (and_parts (f p.0) (g p.1) b.fitting).1; behind_it = b.behind_it; written = both.1 })
+
+  pub first_none : Opens → Reads t f E bytes None → ReadsBoth None
+  first_none opens h =
+      reads_none (λ (p : X × Y). t p.0 ++ u p.1) (λ p. f p.0 && g p.1) F bytes (λ p rest b. unread h (first_of opens p rest b))
+
+  pub then_none : {x : X} {behind : List ℕ} → Opens → Reads t f E bytes (Some (x, behind)) → Reads u g F behind None → ReadsBoth None
+  then_none {x} {behind} opens h k =
+      reads_none (λ (p : X × Y). t p.0 ++ u p.1) (λ p. f p.0 && g p.1) F bytes
+      (λ p rest b. unread k (second_of opens x behind h p rest b).1)
+
+  pub then_some : {x : X} {y : Y} {behind rest : List ℕ} → Opens → Reads t f E bytes (Some (x, behind)) → Reads u g F behind (Some (y, rest))
+      → ReadsBoth (Some ((x, y), rest))
+  then_some {x} {y} {behind} {rest} opens h k =
+      let first = read_begins h in
+      let second = read_begins k in
+      reads_some (λ (p : X × Y). t p.0 ++ u p.1) (λ p. f p.0 && g p.1) F bytes (x, y) rest
+      (record {
+        fitting = and_from (f x) (g y) first.fitting second.fitting;
+        behind_it = second.behind_it;
+        written = first.written ∙ ap (λ (z : List ℕ). t x ++ z) second.written ∙ sym (append_assoc (t x) (u y) rest);
+      })
+      (λ p more b. let found = second_of opens x behind h p more b in let both = read_only k found.1 in (λ i. (found.0 i, both.0 i), both.1))
+
+-- ---- words
+
+abbrev pub Said : List ℕ → List ℕ → Option (Unit {0} × List ℕ) → Type 0
+Said words bytes r = Reads (λ (z : Unit {0}). words) (λ z. true) EndsLine bytes r
+
+pub said : (words bytes rest : List ℕ) → bytes ≡ words ++ rest → Said words bytes (Some (tt, rest))
+said words bytes rest h =
+    reads_some (λ (z : Unit {0}). words) (λ z. true) EndsLine bytes tt rest (record { fitting = refl; behind_it = tt; written = h })
+    (λ y more b. (refl, append_cancel_left words rest more (sym h ∙ b.written)))
+
+pub unsaid : (words bytes : List ℕ) → IsBehind words bytes None → Said words bytes None
+unsaid words bytes h = reads_none (λ (z : Unit {0}). words) (λ z. true) EndsLine bytes (λ x rest b. h rest b.written)
+
+-- ---- the same thing as another
+
+module _ {X Y : Type 0} {t : X → List ℕ} {f : X → Bool} {E : List ℕ → Type 0} {bytes : List ℕ} (u : Y → List ℕ) (g : Y → Bool)
+    (into : X → Y) (from : Y → X) (back : (y : Y) → into (from y) ≡ y) (same_text : (x : X) → u (into x) ≡ t x)
+    (same_fits : (x : X) → g (into x) ≡ f x) where
+  begun_from : (y : Y) (rest : List ℕ) → Begins u g E bytes y rest → Begins t f E bytes (from y) rest
+  begun_from y rest b = record {
+    fitting = sym (same_fits (from y)) ∙ ap g (back y) ∙ b.fitting;
+    behind_it = b.behind_it;
+    written = b.written ∙ ap (λ (z : List ℕ). z ++ rest) (sym (ap u (back y)) ∙ same_text (from y));
+  }
+
+  pub as_none : Reads t f E bytes None → Reads u g E bytes None
+  as_none h = reads_none u g E bytes (λ y rest b. unread h (begun_from y rest b))
+
+  pub as_some : {x : X} {rest : List ℕ} → Reads t f E bytes (Some (x, rest)) → Reads u g E bytes (Some (into x, rest))
+  as_some {x} {rest} h =
+      let begins = read_begins h in
+      reads_some u g E bytes (into x) rest
+      (record {
+        fitting = same_fits x ∙ begins.fitting;
+        behind_it = begins.behind_it;
+        written = begins.written ∙ ap (λ (z : List ℕ). z ++ rest) (sym (same_text x));
+      })
+      (λ y more b. let both = read_only h (begun_from y more b) in (ap into both.0 ∙ back y, both.1))
