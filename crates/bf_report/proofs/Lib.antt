@@ -1,4 +1,6 @@
 pub mod Behind
+pub mod InTurn
 pub mod Loops
+pub mod Names
 pub mod Numerals
-pub mod Reads
+pub mod Quotes

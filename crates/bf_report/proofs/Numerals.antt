@@ -12,7 +12,7 @@ use Rattle.bf_base.specs.Names.{is_digit}
 use Rattle.bf_verdict.specs.Room.{is_u32}
 use Rattle.bf_report.specs.Behind.{IsBehind}
 use Rattle.bf_report.specs.Lines.{Begins, EndsNumber, Reads, is_at_most, number_behind, number_with, starts}
-use Rattle.bf_report.proofs.Reads.{as_none, as_some, reads_none, reads_some}
+use Rattle.bf_report.proofs.InTurn.{as_none, as_some, reads_none, reads_some}
 
 -- one digit is read
 number_more : (v b : ℕ) (bs : List ℕ) → IsTrue (is_digit b) → 10 * v + (b - 48) < 2 ^ 64 → number_behind v (b ∷ bs) ≡ number_behind (10 * v + (b - 48)) bs

@@ -32,6 +32,33 @@ module _ {X : Type 0} {text : X → List ℕ} {fits : X → Bool} {Ends : List �
   pub unread : {y : X} {more : List ℕ} → Reads text fits Ends bytes None → Begins text fits Ends bytes y more → ⊥
   unread {y} {more} h b = none-some (y, more) ((h.exact y more).1 b)
 
+-- ---- one thing that is not told
+
+module _ {X : Type 0} (text : X → List ℕ) (fits : X → Bool) (Ends : List ℕ → Type 0) (bytes : List ℕ) where
+  pub passes_none : ((x : X) (rest : List ℕ) → Begins text fits Ends bytes x rest → ⊥) → Passes text fits Ends bytes None
+  passes_none none = record { exact = λ rest. (λ e. absurd (none-some rest e), λ w. absurd (none w.0 rest w.1)) }
+
+  pub passes_some : (x : X) (rest : List ℕ) → Begins text fits Ends bytes x rest
+      → ((y : X) (more : List ℕ) → Begins text fits Ends bytes y more → rest ≡ more) → Passes text fits Ends bytes (Some rest)
+  passes_some x rest begins only = record { exact = λ more. (
+      λ e. (x, subst (λ (r : List ℕ). Begins text fits Ends bytes x r) (same_Some rest more e) begins),
+      λ w. ap (λ (r : List ℕ). Some r) (only w.0 more w.1)) }
+
+module _ {X : Type 0} {text : X → List ℕ} {fits : X → Bool} {Ends : List ℕ → Type 0} {bytes : List ℕ} where
+  pub pass_begins : {rest : List ℕ} → Passes text fits Ends bytes (Some rest) → (x : X) × Begins text fits Ends bytes x rest
+  pass_begins {rest} h = (h.exact rest).0 refl
+
+  pub pass_only : {y : X} {rest more : List ℕ} → Passes text fits Ends bytes (Some rest) → Begins text fits Ends bytes y more → rest ≡ more
+  pass_only {y} {rest} {more} h b = same_Some rest more ((h.exact more).1 (y, b))
+
+  pub unpassed : {y : X} {more : List ℕ} → Passes text fits Ends bytes None → Begins text fits Ends bytes y more → ⊥
+  unpassed {y} {more} h b = none-some more ((h.exact more).1 (y, b))
+
+  -- what is read passes
+  pub pass_read : (r : Option (X × List ℕ)) → Reads text fits Ends bytes r → Passes text fits Ends bytes (option_map (λ p. p.1) r)
+  pass_read None h = passes_none text fits Ends bytes (λ x rest b. unread h b)
+  pass_read (Some (x, rest)) h = passes_some text fits Ends bytes x rest (read_begins h) (λ y more b. (read_only h b).1)
+
 -- ---- one behind the other
 
 module _ {X Y : Type 0} {t : X → List ℕ} {f : X → Bool} {E : List ℕ → Type 0} {u : Y → List ℕ} {g : Y → Bool} {F : List ℕ → Type 0}
