@@ -1,5 +1,7 @@
 pub mod Behind
 pub mod InTurn
+pub mod Integers
+pub mod Items
 pub mod Loops
 pub mod Names
 pub mod Numerals

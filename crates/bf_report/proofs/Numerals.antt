@@ -1,17 +1,17 @@
 -- Numbers that are read digit by digit.
-use Rattle.std.proofs.Common.{◌≡◌, ◌≢◌, ℕ, suc, ◌+◌, ◌-◌, ◌*◌, ◌/◌, ◌%◌, ◌^◌, ◌<◌, ◌≤◌, Bool, true, false, if◌then◌else◌, IsTrue, List, [], ◌∷◌, ◌++◌, Option, None, Some, refl, sym, ap, subst, ◌∙◌, append_assoc, arith}
+use Rattle.std.proofs.Common.{◌≡◌, ◌≢◌, ℕ, suc, ◌+◌, ◌-◌, ◌*◌, ◌/◌, ◌%◌, ◌^◌, ◌<◌, ◌≤◌, Bool, true, false, if◌then◌else◌, IsTrue, List, [], ◌∷◌, ◌++◌, length, drop, get_or, Option, None, Some, refl, sym, ap, subst, ◌∙◌, append_assoc, arith}
 use Rattle.std.specs.Fmt.{decimal}
 use Rattle.std.specs.Option.{option_and_then}
 use Rattle.std.specs.Prelude.{nat_lt, nat_le}
 use Rattle.std.proofs.lemmas.Bool.{both_ways, leb-true, ltb-true, lt-ltb}
 use Rattle.std.proofs.lemmas.Bool.Decides.{nat_tests}
 use Rattle.std.proofs.lemmas.Fmt.{decimal_by_steps}
-use Rattle.std.proofs.lemmas.List.{append_cancel_left}
+use Rattle.std.proofs.lemmas.List.{append_cancel_left, at_drop_all, at_drop_more}
 use Rattle.std.proofs.lemmas.Option.{none-some, same_Some}
 use Rattle.bf_base.specs.Names.{is_digit}
 use Rattle.bf_verdict.specs.Room.{is_u32}
 use Rattle.bf_report.specs.Behind.{IsBehind}
-use Rattle.bf_report.specs.Lines.{Begins, EndsNumber, Reads, is_at_most, number_behind, number_with, starts}
+use Rattle.bf_report.specs.Lines.{Begins, EndsNumber, Reads, ends, is_at_most, number_behind, number_with, starts}
 use Rattle.bf_report.proofs.InTurn.{as_none, as_some, reads_none, reads_some}
 
 -- one digit is read
@@ -45,12 +45,24 @@ more_digits n ds l of room rest =
 digits_of : (n : ℕ) → n < 2 ^ 64 → AreOf n (decimal n)
 digits_of n room = decimal_by_steps AreOf one_digit more_digits n room
 
-number_ends : (n : ℕ) (rest : List ℕ) → EndsNumber rest → number_behind n rest ≡ Some n
+number_ends : (n : ℕ) (rest : List ℕ) → EndsNumber n rest → number_behind n rest ≡ Some n
 number_ends n [] e = refl
 number_ends n (b ∷ bs) e = ap (λ (t : Bool). if t then option_and_then (λ w. number_behind w bs) (number_with n (b - 48)) else Some n) e
 
-pub number_read : (n : ℕ) (rest : List ℕ) → n < 2 ^ 64 → EndsNumber rest → number_behind 0 (decimal n ++ rest) ≡ Some n
+pub number_read : (n : ℕ) (rest : List ℕ) → n < 2 ^ 64 → EndsNumber n rest → number_behind 0 (decimal n ++ rest) ≡ Some n
 number_read n rest room e = digits_of n room room rest ∙ number_ends n rest e
+
+-- ---- a loop over digits
+
+read_digit : (v i : ℕ) (text : List ℕ) → i < length text
+    → number_behind v (drop i text)
+    ≡ (if is_digit (get_or text i 0) then option_and_then (λ w. number_behind w (drop (i + 1) text)) (number_with v (get_or text i 0 - 48)) else Some v)
+read_digit v i text l = at_drop_more (number_behind v) text i 0 l
+
+read_end : (v n : ℕ) (text : List ℕ) → length text ≤ n → number_behind v (drop n text) ≡ Some v
+read_end v n text l = at_drop_all (number_behind v) text n l
+
+pub ruleset digits = (read_digit, read_end)
 
 -- ---- what a reading answers
 
@@ -108,8 +120,8 @@ same_room : (n : ℕ) → is_u32 n ≡ is_at_most 4294967295 n
 same_room n = grind (arith, nat_tests)
 
 pub short_none : (text : List ℕ) → Reads decimal (is_at_most 4294967295) EndsNumber text None → Reads decimal is_u32 EndsNumber text None
-short_none text h = as_none decimal is_u32 (λ n. n) (λ n. n) (λ n. refl) (λ n. refl) same_room h
+short_none text h = as_none {E = ends is_digit} decimal is_u32 (λ n. n) (λ n. n) (λ n. refl) (λ n. refl) same_room h
 
 pub short_some : (text : List ℕ) (n : ℕ) (rest : List ℕ) → Reads decimal (is_at_most 4294967295) EndsNumber text (Some (n, rest))
     → Reads decimal is_u32 EndsNumber text (Some (n, rest))
-short_some text n rest h = as_some decimal is_u32 (λ n. n) (λ n. n) (λ n. refl) (λ n. refl) same_room h
+short_some text n rest h = as_some {E = ends is_digit} decimal is_u32 (λ n. n) (λ n. n) (λ n. refl) (λ n. refl) same_room h

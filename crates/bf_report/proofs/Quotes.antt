@@ -5,11 +5,8 @@ use Rattle.std.specs.List.{list_all}
 use Rattle.std.proofs.lemmas.Bool.{and_from, and_parts, both_ways, eqb-true, eqb-false, le-leb, leb-true}
 use Rattle.bf_base.specs.Texts.{is_text_byte}
 use Rattle.bf_text.specs.Replies.{quoted}
-use Rattle.bf_report.specs.Lines.{Begins, EndsText, Passes, is_text_within, quoted_text, starts}
+use Rattle.bf_report.specs.Lines.{Begins, EndsText, Passes, ends, is_quote, is_text_within, quoted_text, starts}
 use Rattle.bf_report.proofs.InTurn.{pass_begins, pass_only, passes_none, passes_some, unpassed}
-
-abbrev is_quote : ℕ → Bool
-is_quote b = b == 39
 
 abbrev BeginsText : ℕ → List ℕ → List ℕ → List ℕ → Type 0
 BeginsText room text x rest = Begins quoted_text (is_text_within room) EndsText text x rest
@@ -35,9 +32,9 @@ other_first b c false d z u h e = (sym (ap (λ (l : List ℕ). get_or l 0 0) e),
 
 -- its last quote, or a byte and a shorter text
 pub data Start (room : ℕ) (text rest : List ℕ) : Type 0 where
-  AtEnd : text ≡ 39 ∷ rest → EndsText rest → Start room text rest
+  AtEnd : text ≡ 39 ∷ rest → ends is_quote rest → Start room text rest
   AtByte : (c : ℕ) (x : List ℕ) → text ≡ quoted c ++ (quoted_text x ++ rest) → IsTrue (is_text_byte c) → suc (length x) ≤ room
-      → IsTrue (list_all is_text_byte x) → EndsText rest → Start room text rest
+      → IsTrue (list_all is_text_byte x) → ends is_quote rest → Start room text rest
 
 quoted_more : (c : ℕ) (x rest : List ℕ) → quoted_text (c ∷ x) ++ rest ≡ quoted c ++ (quoted_text x ++ rest)
 quoted_more c x rest =
@@ -50,7 +47,7 @@ start_of room text (c ∷ x) rest b =
     let bytes = and_parts (is_text_byte c) (list_all is_text_byte x) both.1 in
     AtByte c x (b.written ∙ quoted_more c x rest) bytes.0 (leb-true (length (c ∷ x)) room both.0) bytes.1 b.behind_it
 
-begun : (room : ℕ) (text x rest : List ℕ) → length x ≤ room → IsTrue (list_all is_text_byte x) → EndsText rest → text ≡ quoted_text x ++ rest
+begun : (room : ℕ) (text x rest : List ℕ) → length x ≤ room → IsTrue (list_all is_text_byte x) → ends is_quote rest → text ≡ quoted_text x ++ rest
     → BeginsText room text x rest
 begun room text x rest l h ended written = record {
   fitting = and_from (nat_le (length x) room) (list_all is_text_byte x) (le-leb (length x) room l) h;

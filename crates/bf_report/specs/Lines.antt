@@ -1,8 +1,9 @@
 -- What a text begins with: a thing by its text, and what stands behind it.
-use Rattle.std.specs.Prelude.{◌≡◌, ◌↔◌, ◌⊎◌, ℕ, ◌+◌, ◌-◌, ◌*◌, ◌^◌, Bool, false, ◌&&◌, ◌||◌, ◌==◌, if◌then◌else◌, nat_le, nat_lt, List, [], ◌∷◌, ◌++◌, length, map, flat_map, codes, Option, None, Some, option_and_then, IsTrue}
+use Rattle.std.specs.Prelude.{◌≡◌, ◌↔◌, ◌⊎◌, ℕ, ◌+◌, ◌-◌, ◌*◌, ◌^◌, Bool, false, ◌&&◌, ◌||◌, ◌==◌, if◌then◌else◌, nat_le, nat_lt, List, [], ◌∷◌, ◌++◌, length, map, flat_map, codes, ℤ, Option, None, Some, option_and_then, IsTrue}
 use Rattle.std.specs.List.{list_all}
 use Rattle.bf_base.specs.Names.{is_digit, is_name, is_name_byte}
 use Rattle.bf_base.specs.Texts.{is_text_byte}
+use Rattle.bf_base.specs.declared.value.Value.TheVariants.{Int, Text}
 use Rattle.bf_text.specs.Numbers.{are_u64, is_u64, numbers_in_cause}
 use Rattle.bf_text.specs.Replies.{cause_text, cell_text, listed, newline, numbered, place_text, quoted, reply_text}
 use Rattle.bf_text.specs.Told.{is_named}
@@ -22,11 +23,11 @@ starts test (b ∷ bs) = test b
 abbrev pub ends : (ℕ → Bool) → List ℕ → Type 0
 ends test bytes = starts test bytes ≡ false
 
-module _ {X : Type 0} (text : X → List ℕ) (fits : X → Bool) (Ends : List ℕ → Type 0) where
-  -- bytes begin with a thing that fits, and behind it `Ends` holds of the rest
+module _ {X : Type 0} (text : X → List ℕ) (fits : X → Bool) (Ends : X → List ℕ → Type 0) where
+  -- bytes begin with a thing that fits, and `Ends` holds of it and of the rest, so that it goes no further
   pub record Begins (bytes : List ℕ) (x : X) (rest : List ℕ) : Type 0 where
     pub fitting : IsTrue (fits x)
-    pub behind_it : Ends rest
+    pub behind_it : Ends x rest
     pub written : bytes ≡ text x ++ rest
 
   -- READS: a thing and the rest are answered exactly where the bytes begin with them; so one thing at most, and none exactly where
@@ -47,23 +48,31 @@ abbrev pub number_behind : ℕ → List ℕ → Option ℕ
 number_behind value [] = Some value
 number_behind value (b ∷ bs) = if is_digit b then option_and_then (λ v. number_behind v bs) (number_with value (b - 48)) else Some value
 
--- behind a number stands no digit, behind a name no byte of one
-abbrev pub EndsNumber : List ℕ → Type 0
-EndsNumber = ends is_digit
+-- behind a number stands no digit, behind a name no byte of one, and behind a text no quote
+abbrev pub EndsNumber : ℕ → List ℕ → Type 0
+EndsNumber n rest = ends is_digit rest
 
-abbrev pub EndsName : List ℕ → Type 0
-EndsName = ends is_name_byte
+abbrev pub EndsInt : ℤ → List ℕ → Type 0
+EndsInt z rest = ends is_digit rest
 
--- behind a text stands no quote, and behind a value neither
-abbrev pub EndsText : List ℕ → Type 0
-EndsText = ends (λ b. b == 39)
+abbrev pub EndsName : List ℕ → List ℕ → Type 0
+EndsName name rest = ends is_name_byte rest
 
-abbrev pub EndsValue : List ℕ → Type 0
-EndsValue = ends (λ b. is_digit b || b == 39)
+abbrev pub is_quote : ℕ → Bool
+is_quote b = b == 39
+
+abbrev pub EndsText : List ℕ → List ℕ → Type 0
+EndsText bytes rest = ends is_quote rest
+
+-- behind a cell the same as behind its value
+abbrev pub EndsCell : Cell → List ℕ → Type 0
+EndsCell (cells.Value (Int z)) rest = EndsInt z rest
+EndsCell (cells.Value (Text bytes)) rest = EndsText bytes rest
+EndsCell cells.Null rest = Unit {0}
 
 -- behind a line anything stands
-abbrev pub EndsLine : List ℕ → Type 0
-EndsLine rest = Unit {0}
+abbrev pub EndsLine : {X : Type 0} → X → List ℕ → Type 0
+EndsLine x rest = Unit {0}
 
 -- a reply's first line, with the place, and how many lines of rows follow it
 abbrev pub head_text : ℕ → ℕ → Reply → List ℕ

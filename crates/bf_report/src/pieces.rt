@@ -8,7 +8,7 @@ ghost use Rattle.std.specs.Fmt.{decimal, signed_decimal};
 ghost use Rattle.std.specs.List.{list_all};
 ghost use Rattle.bf_base.specs.Names.{is_digit, is_name, is_name_byte};
 ghost use Rattle.bf_text.specs.Replies.{cell_text};
-ghost use Rattle.bf_report.specs.Lines.{EndsLine, EndsName, EndsNumber, EndsText, EndsValue, IsEnd, Passes, Reads, closed, closed_further, is_at_most, is_text_within, item_has_room, items_have_room, number_behind, number_with, quoted_text, starts};
+ghost use Rattle.bf_report.specs.Lines.{EndsCell, EndsInt, EndsLine, EndsName, EndsNumber, EndsText, IsEnd, Passes, Reads, closed, closed_further, is_at_most, is_text_within, item_has_room, items_have_room, number_behind, number_with, quoted_text, starts};
 ghost use Rattle.bf_verdict.specs.Room.{is_i64, is_u32};
 
 use crate::telling::{behind, behind_decimal};
@@ -38,6 +38,7 @@ fn with_digit(value: u64, digit: u8) -> Option<u64>
 }
 
 /// The value of the digits that a text begins with, 0 where there are none. `None` where it has more than 64 bits.
+#[tactic(auto, using(crate::proofs::Numerals::digits))]
 fn digits(text: &[u8]) -> Option<u64>
     ensures { result ≡ number_behind 0 text.now }
 {
@@ -78,7 +79,7 @@ pub(crate) fn short_number(text: &[u8]) -> Option<(u32, &[u8])>
 
 /// An INT.
 fn integer(text: &[u8]) -> Option<&[u8]>
-    ensures { Passes signed_decimal is_i64 EndsNumber text.now (option_copied result) }
+    ensures { Passes signed_decimal is_i64 EndsInt text.now (option_copied result) }
 {
     let Some(magnitude) = behind(text, b"-") else {
         let (_, rest) = number(text, i64::MAX as u64)?;
@@ -146,7 +147,7 @@ fn quoted(text: &[u8], room: usize) -> Option<&[u8]>
 
 /// A value, or `NULL` where it may stand for none.
 fn item(text: &[u8], or_none: bool) -> Option<&[u8]>
-    ensures { Passes cell_text (item_has_room or_none) EndsValue text.now (option_copied result) }
+    ensures { Passes cell_text (item_has_room or_none) EndsCell text.now (option_copied result) }
 {
     match text {
         [b'\'', rest @ ..] => quoted(rest, LONGEST_TEXT),
