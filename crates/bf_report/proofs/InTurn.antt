@@ -61,41 +61,38 @@ module _ {X : Type 0} {text : X → List ℕ} {fits : X → Bool} {Ends : X → 
 
 -- ---- one behind the other
 
-module _ {X Y : Type 0} {t : X → List ℕ} {f : X → Bool} {E : X → List ℕ → Type 0} {u : Y → List ℕ} {g : Y → Bool} {F : Y → List ℕ → Type 0}
-    {bytes : List ℕ} where
-  -- what may stand behind the first stands there, where the second does
-  abbrev pub Opens : Type 0
-  Opens = (x : X) (y : Y) (rest : List ℕ) → IsTrue (g y) → F y rest → E x (u y ++ rest)
-
+-- `opens`: what may stand behind the first stands there, where the second does
+module _ {X Y : Type 0} (t : X → List ℕ) (f : X → Bool) (E : X → List ℕ → Type 0) (u : Y → List ℕ) (g : Y → Bool) (F : Y → List ℕ → Type 0)
+    (bytes : List ℕ) (opens : (x : X) (y : Y) (rest : List ℕ) → IsTrue (g y) → F y rest → E x (u y ++ rest)) where
   abbrev pub ReadsBoth : Option ((X × Y) × List ℕ) → Type 0
   ReadsBoth r = Reads (λ (p : X × Y). t p.0 ++ u p.1) (λ p. f p.0 && g p.1) (λ p. F p.1) bytes r
 
   abbrev BeginsBoth : X × Y → List ℕ → Type 0
   BeginsBoth p rest = Begins (λ (p : X × Y). t p.0 ++ u p.1) (λ p. f p.0 && g p.1) (λ p. F p.1) bytes p rest
 
-  first_of : Opens → (p : X × Y) (rest : List ℕ) → BeginsBoth p rest → Begins t f E bytes p.0 (u p.1 ++ rest)
-  first_of opens p rest b =
+  first_of : (p : X × Y) (rest : List ℕ) → BeginsBoth p rest → Begins t f E bytes p.0 (u p.1 ++ rest)
+  first_of p rest b =
       let parts = and_parts (f p.0) (g p.1) b.fitting in
       record { fitting = parts.0; behind_it = opens p.0 p.1 rest parts.1 b.behind_it; written = b.written ∙ append_assoc (t p.0) (u p.1) rest }
 
-  second_of : Opens → (x : X) (behind : List ℕ) → Reads t f E bytes (Some (x, behind)) → (p : X × Y) (rest : List ℕ) → BeginsBoth p rest
+  second_of : (x : X) (behind : List ℕ) → Reads t f E bytes (Some (x, behind)) → (p : X × Y) (rest : List ℕ) → BeginsBoth p rest
       → (x ≡ p.0) × Begins u g F behind p.1 rest
-  second_of opens x behind h p rest b =
-      let both = read_only h (first_of opens p rest b) in
+  second_of x behind h p rest b =
+      let both = read_only h (first_of p rest b) in
       (both.0, record { fitting = (and_parts (f p.0) (g p.1) b.fitting).1; behind_it = b.behind_it; written = both.1 })
 
-  pub first_none : Opens → Reads t f E bytes None → ReadsBoth None
-  first_none opens h =
-      reads_none (λ (p : X × Y). t p.0 ++ u p.1) (λ p. f p.0 && g p.1) (λ p. F p.1) bytes (λ p rest b. unread h (first_of opens p rest b))
+  pub first_none : Reads t f E bytes None → ReadsBoth None
+  first_none h =
+      reads_none (λ (p : X × Y). t p.0 ++ u p.1) (λ p. f p.0 && g p.1) (λ p. F p.1) bytes (λ p rest b. unread h (first_of p rest b))
 
-  pub then_none : {x : X} {behind : List ℕ} → Opens → Reads t f E bytes (Some (x, behind)) → Reads u g F behind None → ReadsBoth None
-  then_none {x} {behind} opens h k =
+  pub then_none : (x : X) (behind : List ℕ) → Reads t f E bytes (Some (x, behind)) → Reads u g F behind None → ReadsBoth None
+  then_none x behind h k =
       reads_none (λ (p : X × Y). t p.0 ++ u p.1) (λ p. f p.0 && g p.1) (λ p. F p.1) bytes
-      (λ p rest b. unread k (second_of opens x behind h p rest b).1)
+      (λ p rest b. unread k (second_of x behind h p rest b).1)
 
-  pub then_some : {x : X} {y : Y} {behind rest : List ℕ} → Opens → Reads t f E bytes (Some (x, behind)) → Reads u g F behind (Some (y, rest))
+  pub then_some : (x : X) (y : Y) (behind rest : List ℕ) → Reads t f E bytes (Some (x, behind)) → Reads u g F behind (Some (y, rest))
       → ReadsBoth (Some ((x, y), rest))
-  then_some {x} {y} {behind} {rest} opens h k =
+  then_some x y behind rest h k =
       let first = read_begins h in
       let second = read_begins k in
       reads_some (λ (p : X × Y). t p.0 ++ u p.1) (λ p. f p.0 && g p.1) (λ p. F p.1) bytes (x, y) rest
@@ -104,11 +101,11 @@ module _ {X Y : Type 0} {t : X → List ℕ} {f : X → Bool} {E : X → List �
         behind_it = second.behind_it;
         written = first.written ∙ ap (λ (z : List ℕ). t x ++ z) second.written ∙ sym (append_assoc (t x) (u y) rest);
       })
-      (λ p more b. let found = second_of opens x behind h p more b in let both = read_only k found.1 in (λ i. (found.0 i, both.0 i), both.1))
+      (λ p more b. let found = second_of x behind h p more b in let both = read_only k found.1 in (λ i. (found.0 i, both.0 i), both.1))
 
 -- ---- words before a thing
 
-module _ {X : Type 0} {t : X → List ℕ} {f : X → Bool} {E : X → List ℕ → Type 0} (words text : List ℕ) where
+module _ {X : Type 0} (t : X → List ℕ) (f : X → Bool) (E : X → List ℕ → Type 0) (words text : List ℕ) where
   abbrev pub ReadsBehind : Option (X × List ℕ) → Type 0
   ReadsBehind r = Reads (λ x. words ++ t x) f E text r
 
@@ -142,7 +139,7 @@ module _ {X : Type 0} {t : X → List ℕ} {f : X → Bool} {E : X → List ℕ 
 
 -- ---- a thing before words
 
-module _ {X : Type 0} {t : X → List ℕ} {f : X → Bool} {E : X → List ℕ → Type 0} (words text : List ℕ)
+module _ {X : Type 0} (t : X → List ℕ) (f : X → Bool) (E : X → List ℕ → Type 0) (words text : List ℕ)
     (opens : (x : X) (rest : List ℕ) → E x (words ++ rest)) where
   abbrev pub ReadsBefore : Option (X × List ℕ) → Type 0
   ReadsBefore r = Reads (λ x. t x ++ words) f EndsLine text r

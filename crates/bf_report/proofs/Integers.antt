@@ -78,8 +78,8 @@ module _ (text magnitude : List ℕ) (minus : text ≡ 45 ∷ magnitude) where
   pub minus_none : ReadsMagnitude None → PassesInt text None
   minus_none h = passes_none signed_decimal is_i64 EndsInt text (λ z rest b. unread h (magnitude_of z rest b).2)
 
-  pub minus_zero : (rest : List ℕ) → ReadsMagnitude (Some (0, rest)) → PassesInt text None
-  minus_zero rest h =
+  pub minus_zero : (n : ℕ) (rest : List ℕ) → n ≡ 0 → ReadsMagnitude (Some (n, rest)) → PassesInt text None
+  minus_zero n rest none h =
       passes_none signed_decimal is_i64 EndsInt text
       (λ z more b. let found = magnitude_of z more b in let same = (read_only h found.2).0 in absurd (omega arith))
 

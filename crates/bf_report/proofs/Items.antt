@@ -94,6 +94,14 @@ item_null t (Some rest) h =
 
 -- ---- further values
 
+-- what was passed so far, and where all that the text can be read as goes on
+pub record Continues (or_none : Bool) (end text rest : List ℕ) : Type 0 where
+  pub passed : List Cell
+  pub have_room : IsTrue (items_have_room or_none passed)
+  pub written : text ≡ flat_map (λ y. codes ", " ++ y) (map cell_text passed) ++ rest
+  pub only : (cs : List Cell) (more : List ℕ) → Begins (closed_further end) (items_have_room or_none) EndsLine text cs more
+      → (left : List Cell) × Begins (closed_further end) (items_have_room or_none) EndsLine rest left more
+
 module _ (or_none : Bool) (end : List ℕ) (is_end : IsEnd end) where
   abbrev pub BeginsFurther : List ℕ → List Cell → List ℕ → Type 0
   BeginsFurther text cs rest = Begins (closed_further end) (items_have_room or_none) EndsLine text cs rest
@@ -135,14 +143,7 @@ module _ (or_none : Bool) (end : List ℕ) (is_end : IsEnd end) where
       ap (λ (z : List ℕ). z ++ more) (append_assoc (codes ", " ++ cell_text c) (further_text cs) end)
       ∙ append_assoc (codes ", " ++ cell_text c) (closed_further end cs) more
 
-  -- what was passed so far, and where all that the text can be read as goes on
-  pub record Continues (text rest : List ℕ) : Type 0 where
-    pub passed : List Cell
-    pub have_room : IsTrue (items_have_room or_none passed)
-    pub written : text ≡ further_text passed ++ rest
-    pub only : (cs : List Cell) (more : List ℕ) → BeginsFurther text cs more → (left : List Cell) × BeginsFurther rest left more
-
-  pub at_first : (text : List ℕ) → Continues text text
+  pub at_first : (text : List ℕ) → Continues or_none end text text
   at_first text = record { passed = []; have_room = refl; written = refl; only = λ cs more b. (cs, b) }
 
   -- behind a comma a value goes on
@@ -158,7 +159,7 @@ module _ (or_none : Bool) (end : List ℕ) (is_end : IsEnd end) where
         written = ap (drop 2) (sym comma ∙ b.written ∙ further_more c cs more);
       }, parts.1)
 
-  pub no_item : (text rest further : List ℕ) → Continues text rest → rest ≡ codes ", " ++ further → PassesItem or_none further None → PassesFurther text None
+  pub no_item : (text rest further : List ℕ) → Continues or_none end text rest → rest ≡ codes ", " ++ further → PassesItem or_none further None → PassesFurther text None
   no_item text rest further h comma none =
       passes_none (closed_further end) (items_have_room or_none) EndsLine text
       (λ cs more b. let left = h.only cs more b in unpassed none (goes_on rest further comma left.0 more left.1).2)
@@ -172,8 +173,8 @@ module _ (or_none : Bool) (end : List ℕ) (is_end : IsEnd end) where
           ∙ ap (λ (z : List ℕ). further_text passed ++ z) (append-nil (codes ", " ++ cell_text c)) in
       sym (append_assoc (further_text passed) (codes ", " ++ cell_text c) rest) ∙ ap (λ (z : List ℕ). z ++ rest) (sym last)
 
-  pub next_item : (text rest further behind : List ℕ) → Continues text rest → rest ≡ codes ", " ++ further → PassesItem or_none further (Some behind)
-      → Continues text behind
+  pub next_item : (text rest further behind : List ℕ) → Continues or_none end text rest → rest ≡ codes ", " ++ further → PassesItem or_none further (Some behind)
+      → Continues or_none end text behind
   next_item text rest further behind h comma item =
       let found = pass_begins item in
       let begins = found.1 in
@@ -197,7 +198,7 @@ module _ (or_none : Bool) (end : List ℕ) (is_end : IsEnd end) where
   ended_at rest none (c ∷ cs) more b =
       absurd (none (cell_text c ++ (closed_further end cs ++ more)) (b.written ∙ further_more c cs more))
 
-  pub at_last : (text rest : List ℕ) (r : Option (List ℕ)) → Continues text rest → IsBehind (codes ", ") rest None → IsBehind end rest r → PassesFurther text r
+  pub at_last : (text rest : List ℕ) (r : Option (List ℕ)) → Continues or_none end text rest → IsBehind (codes ", ") rest None → IsBehind end rest r → PassesFurther text r
   at_last text rest None h none last =
       passes_none (closed_further end) (items_have_room or_none) EndsLine text
       (λ cs more b. let left = h.only cs more b in last more (ended_at rest none left.0 more left.1))

@@ -54,15 +54,25 @@ number_read n rest room e = digits_of n room room rest ∙ number_ends n rest e
 
 -- ---- a loop over digits
 
-read_digit : (v i : ℕ) (text : List ℕ) → i < length text
+pub read_digit : (v i : ℕ) (text : List ℕ) → i < length text
     → number_behind v (drop i text)
     ≡ (if is_digit (get_or text i 0) then option_and_then (λ w. number_behind w (drop (i + 1) text)) (number_with v (get_or text i 0 - 48)) else Some v)
 read_digit v i text l = at_drop_more (number_behind v) text i 0 l
 
-read_end : (v n : ℕ) (text : List ℕ) → length text ≤ n → number_behind v (drop n text) ≡ Some v
+pub read_end : (v n : ℕ) (text : List ℕ) → length text ≤ n → number_behind v (drop n text) ≡ Some v
 read_end v n text l = at_drop_all (number_behind v) text n l
 
-pub ruleset digits = (read_digit, read_end)
+pub digit_stop : (v i : ℕ) (text : List ℕ) → i < length text → is_digit (get_or text i 0) ≡ false → number_behind v (drop i text) ≡ Some v
+digit_stop v i text l none =
+    read_digit v i text l
+    ∙ ap (λ (t : Bool). if t then option_and_then (λ w. number_behind w (drop (i + 1) text)) (number_with v (get_or text i 0 - 48)) else Some v) none
+
+pub digit_next : (v i : ℕ) (text : List ℕ) (r : Option ℕ) → i < length text → is_digit (get_or text i 0) ≡ true → r ≡ number_with v (get_or text i 0 - 48)
+    → number_behind v (drop i text) ≡ option_and_then (λ w. number_behind w (drop (i + 1) text)) r
+digit_next v i text r l digit next =
+    read_digit v i text l
+    ∙ ap (λ (t : Bool). if t then option_and_then (λ w. number_behind w (drop (i + 1) text)) (number_with v (get_or text i 0 - 48)) else Some v) digit
+    ∙ ap (λ (o : Option ℕ). option_and_then (λ w. number_behind w (drop (i + 1) text)) o) (sym next)
 
 -- ---- what a reading answers
 

@@ -38,7 +38,6 @@ fn with_digit(value: u64, digit: u8) -> Option<u64>
 }
 
 /// The value of the digits that a text begins with, 0 where there are none. `None` where it has more than 64 bits.
-#[tactic(auto, using(crate::proofs::Numerals::digits))]
 fn digits(text: &[u8]) -> Option<u64>
     ensures { result ≡ number_behind 0 text.now }
 {
