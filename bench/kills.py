@@ -1,9 +1,10 @@
 #!/usr/bin/env python3
 """Kills runs over a log at random moments, and reopens it each time.
 
-A run writes its report at its end, so a killed one has told nothing. What is asked of the log is that it
-reopens, that it holds the first of the commits and no others, in the midst of a migration too, and that
-no commit is lost that an earlier run had told of. Takes the program, as `rt run` leaves it, and how many kills:
+A run writes its report at its end, so a killed one has told nothing. One is let end first, and tells how long the
+others may take. What is asked of the log is that it reopens, that it holds the first of the commits and no others,
+in the midst of a migration too, and that no commit is lost that an earlier run had told of. Takes the program, as
+`rt run` leaves it, and how many kills:
 
     python3 bench/kills.py crates/bullfrog/out/bullfrog 200
 
@@ -111,14 +112,15 @@ class Log:
             counts.append(count)
         return counts
 
-    def kill(self, kept):
-        """Begins a run and kills it: whether it was killed, and what it told."""
+    def kill(self, kept, after=None):
+        """Begins a run and kills it after some time, if after any: whether it was killed, and what it told."""
         words = [self.program, "run", self.path, *self.shape.options]
         going = subprocess.Popen(words, stdin=subprocess.PIPE, stdout=subprocess.PIPE)
         going.stdin.write(self.shape.script(kept).encode())
         going.stdin.close()
-        time.sleep(random.uniform(0, 0.3))
-        going.kill()
+        if after is not None:
+            time.sleep(after)
+            going.kill()
         text = going.stdout.read().decode()
         return going.wait() != 0, text
 
@@ -128,12 +130,15 @@ def main():
     shape = Threads() if "--threads" in sys.argv[3:] else OneSession()
     with tempfile.TemporaryDirectory() as folder:
         log = Log(program, os.path.join(folder, "log"), shape)
+        start = time.monotonic()
+        log.kill(log.kept())
+        whole = time.monotonic() - start
         told, killed, ended, moved = log.kept(), 0, 0, 0
         while killed < kills:
             if (killed + ended) % shape.kills_between == shape.kills_between // 2:
                 log.migrate()
                 moved += 1
-            was_killed, text = log.kill(told)
+            was_killed, text = log.kill(told, random.uniform(0, whole))
             killed += was_killed
             kept = log.kept()
             for before, now in zip(told, kept):
