@@ -1,5 +1,15 @@
 -- What a section under the lock hands out.
+use Rattle.std.specs.Prelude.{◌≡◌, ◌≢◌, ℕ, Some, slice_get}
+use Rattle.bf_locks.specs.declared.answer.LockAnswer.TheVariants as told
+use Rattle.bf_sql.specs.Database.{Database}
+use Rattle.bf_sql.specs.Footprints.{Lock}
+use Rattle.bf_machine.specs.interleaving.Events.{Asks}
+use Rattle.bf_machine.specs.interleaving.Machines.{Machine}
 use Rattle.bf_serve.specs.Requests.{AreNeededOf, Request}
+use Rattle.bf_serve.specs.declared.engine.Served.{Served}
+use Rattle.bf_serve.specs.declared.engine.Served.TheVariants as served
+use Rattle.bf_serve.specs.declared.sections.Asked.{Asked}
+use Rattle.bf_serve.specs.declared.sections.Asked.TheVariants.{Died, Elsewhere, Granted, Waits}
 use Rattle.bf_serve.specs.declared.sections.Ran.{Ran}
 use Rattle.bf_serve.specs.declared.sections.Ran.TheVariants.{Need}
 
@@ -7,3 +17,23 @@ use Rattle.bf_serve.specs.declared.sections.Ran.TheVariants.{Need}
 abbrev pub AreNeededIfAny : Request → Ran → Type 0
 AreNeededIfAny r (Need granules) = AreNeededOf r granules.items
 AreNeededIfAny r other = Unit {0}
+
+abbrev pub AreNeededIfServed : Request → Served → Type 0
+AreNeededIfServed r (served.Need granules seen) = AreNeededOf r granules.items
+AreNeededIfServed r other = Unit {0}
+
+-- the statement has its reply
+abbrev pub IsReplied : Served → Type 0
+IsReplied served.Replied = Unit {0}
+IsReplied (served.Ended changes) = Unit {0}
+IsReplied other = ⊥
+
+-- ASKED: what a machine told of one lock of a request; elsewhere nothing has happened
+abbrev pub IsAskedFor : Database → Machine → Request → Lock → Asked → Machine → Type 0
+IsAskedFor start m r lock Granted next = Asks m r.at.session start lock.0 lock.1 told.Granted next
+IsAskedFor start m r lock Waits next = (younger : ℕ) × Asks m r.at.session start lock.0 lock.1 (told.Wait younger) next
+IsAskedFor start m r lock Died next = (older : ℕ) × Asks m r.at.session start lock.0 lock.1 (told.Die older) next
+IsAskedFor start m r lock Elsewhere next = next ≡ m
+
+abbrev pub IsAskedAs : Database → Machine → Request → ℕ → Machine → Asked → Type 0
+IsAskedAs start m r index next asked = (lock : Lock) × (slice_get r.locks index ≡ Some lock) × IsAskedFor start m r lock asked next

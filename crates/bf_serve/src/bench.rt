@@ -63,10 +63,9 @@ impl<'r, 'g, N: Beginning<J>, J: Journal, R: Wait, G: Gate> Shared<'r, 'g, N, J,
         let migration = self.registry.migration(work.pass());
         let images = Images::of(self.alloc, migration, indexes, work.granules())?;
         let moved = self
-            .engine
-            .lock(self.rt)
+            .engine()
             .move_granules(self.registry, session, work, indexes, images);
-        self.wake_all();
+        self.wake();
         moved
     }
 
@@ -131,7 +130,7 @@ impl<'r, 'g, N: Beginning<J>, J: Journal, R: Wait, G: Gate> Bench for Shared<'r,
     }
 
     fn left(&self, seats: &mut Seats<N>, most: u32) -> Result<Left, Memory> {
-        let ahead = self.engine.lock(self.rt).ahead(self.registry, most)?;
+        let ahead = self.engine().ahead(self.registry, most)?;
         let anchors = match ahead {
             Ahead::Anchors(anchors) => anchors,
             Ahead::Wait(seen) => {
@@ -181,6 +180,7 @@ impl<'r, 'g, N: Beginning<J>, J: Journal, R: Wait, G: Gate> Bench for Shared<'r,
         match moved {
             Ok(Some(moved)) => {
                 seats.finish(self.rt, wip, moved);
+                self.note_finished();
                 Ok(Carried::Moved)
             }
             Ok(None) => {

@@ -8,17 +8,24 @@ ghost use Rattle.bf_bench.specs.Notes.{fresh};
 ghost use Rattle.bf_serve.specs.Seats.{Hold, IsFreshSeatOf};
 ghost use Rattle.bf_serve.specs.Steps.{IsStep};
 
-use crate::engine::{Beginning, Due, Engine, Phase};
+use crate::engine::{Beginning, Due, Engine, Phase, Served};
 use crate::requests::{Position, Request};
 use crate::seats::{Seat, Seats};
-use crate::sections::{Asked, Ran};
 use bf_base::{Granule, Memory};
 use bf_bench::Gate;
 use bf_image::{MigrationPass, Registry};
 use bf_machine::{Journal, Lookups};
 use bf_tree::Script;
 use std::alloc::Global;
-use std::sync::{Arc, Condvar, Mutex, Wait};
+use std::hint::spin_loop;
+use std::sync::{Arc, Condvar, Mutex, MutexGuard, Wait};
+
+/// How often an actor looks whether the lock is free before it sleeps. A section without a device takes a few microseconds, and a
+/// sleep with its waking as long as several of them.
+const LOOKS: u32 = 40;
+
+/// How long an actor pauses between two looks.
+const PAUSES: u32 = 8;
 
 /// A machine beside its journal under a lock, and what the threads of a run read without it.
 pub struct Shared<'r, 'g, N: Beginning<J>, J: Journal, R: Wait, G: Gate> {
@@ -54,14 +61,27 @@ pub(crate) enum Step {
 }
 
 impl<'r, 'g, N: Beginning<J>, J: Journal, R: Wait, G: Gate> Shared<'r, 'g, N, J, R, G> {
+    /// The engine, once no one else has it: it looks a few times, and then sleeps until it is woken.
+    pub(crate) fn engine(&self) -> MutexGuard<'_, Engine<N, J>> {
+        for _ in 0..LOOKS {
+            if let Some(engine) = self.engine.try_lock() {
+                return engine;
+            }
+            for _ in 0..PAUSES {
+                spin_loop();
+            }
+        }
+        self.engine.lock(self.rt)
+    }
+
     /// A phase begins.
     pub(crate) fn begin_phase(&self, phase: Phase) {
-        self.engine.lock(self.rt).begin_phase(phase);
+        self.engine().begin_phase(phase);
     }
 
     /// The present phase.
     pub(crate) fn phase(&self) -> Phase {
-        self.engine.lock(self.rt).phase()
+        self.engine().phase()
     }
 
     /// Tells sessions that wait that they may go on.
@@ -77,19 +97,25 @@ impl<'r, 'g, N: Beginning<J>, J: Journal, R: Wait, G: Gate> Shared<'r, 'g, N, J,
 
     /// Notes that memory ran out for an actor, so that each other one ends too.
     pub(crate) fn run_out(&self) {
-        self.engine.lock(self.rt).run_out();
+        self.engine().run_out();
         self.wake_all();
+    }
+
+    /// Notes that the claims of granules that have moved have ended, and tells workers that rest.
+    pub(crate) fn note_finished(&self) {
+        self.engine().note_finished();
+        self.called.notify_all();
     }
 
     /// Notes that granules are free again, for which others may wait.
     pub(crate) fn note_given_back(&self) {
-        self.engine.lock(self.rt).note_given_back();
+        self.engine().note_given_back();
         self.wake_all();
     }
 
     /// Notes that granules are free again whose move was refused.
     pub(crate) fn note_refused(&self) {
-        self.engine.lock(self.rt).note_refused();
+        self.engine().note_refused();
         self.wake_all();
     }
 
@@ -97,7 +123,7 @@ impl<'r, 'g, N: Beginning<J>, J: Journal, R: Wait, G: Gate> Shared<'r, 'g, N, J,
     pub(crate) fn wait_for(&self, seen: u64) {
         let engine = self
             .happened
-            .wait_while(self.rt, self.engine.lock(self.rt), |engine| {
+            .wait_while(self.rt, self.engine(), |engine| {
                 engine.count() <= seen && !engine.is_out_of_memory()
             });
         drop(engine);
@@ -107,7 +133,7 @@ impl<'r, 'g, N: Beginning<J>, J: Journal, R: Wait, G: Gate> Shared<'r, 'g, N, J,
     pub(crate) fn rest_for(&self, seen: u64) {
         let engine = self
             .called
-            .wait_while(self.rt, self.engine.lock(self.rt), |engine| {
+            .wait_while(self.rt, self.engine(), |engine| {
                 engine.calls() <= seen && !engine.is_out_of_memory()
             });
         drop(engine);
@@ -137,22 +163,18 @@ impl<'r, 'g, N: Beginning<J>, J: Journal, R: Wait, G: Gate> Shared<'r, 'g, N, J,
         requires { IsPlace self.now.script session }
         ensures { IfOk result (IsStep N.registry) }
     {
-        let due = self
-            .engine
-            .lock(self.rt)
-            .next(self.rt, self.registry, session)?;
+        let due = self.engine().next(self.rt, self.registry, session)?;
         match due {
             Due::Again => Ok(Step::Again),
-            Due::Ending(end) => {
-                self.wake();
-                match end {
+            Due::Ending {
+                by,
+                changes_catalog,
+            } => {
+                self.tell_end(changes_catalog);
+                match by {
                     Some(statement) => Ok(Step::Replied(statement)),
                     None => Ok(Step::Again),
                 }
-            }
-            Due::EndingSchema => {
-                self.wake_all();
-                Ok(Step::Again)
             }
             Due::Wait(seen) => Ok(Step::Wait(seen)),
             Due::Ended => {
@@ -168,17 +190,31 @@ impl<'r, 'g, N: Beginning<J>, J: Journal, R: Wait, G: Gate> Shared<'r, 'g, N, J,
         ensures { IfOk result (IsStep N.registry) }
     {
         let request = self.make_ready(at, is_left)?;
-        if let Some(step) = self.ask_for_all(&request)? {
-            return Ok(step);
+        let served = self.engine().serve(self.rt, self.registry, &request)?;
+        match (served, request.at().migration()) {
+            (Served::Replied, _) => Ok(Step::Replied(request.at().place())),
+            (Served::Ended { changes_catalog }, _) => {
+                self.tell_end(changes_catalog);
+                Ok(Step::Replied(request.at().place()))
+            }
+            (Served::Need(granules, seen), Some(pass)) => {
+                Ok(Step::Need(pass.copy(), granules, seen))
+            }
+            (Served::Waits(seen), _) => Ok(Step::Wait(seen)),
+            (Served::Died, _) => {
+                self.wake();
+                Ok(Step::Again)
+            }
+            (Served::Need(..) | Served::Elsewhere, _) => Ok(Step::Again),
         }
-        let (ran, seen) = self
-            .engine
-            .lock(self.rt)
-            .run_statement(self.registry, &request)?;
-        match (ran, request.at().migration()) {
-            (Ran::Replied, _) => Ok(Step::Replied(request.at().place())),
-            (Ran::Need(granules), Some(pass)) => Ok(Step::Need(pass.copy(), granules, seen)),
-            (Ran::Need(_) | Ran::Elsewhere, _) => Ok(Step::Again),
+    }
+
+    /// Tells those who wait that a group has ended; workers too where the catalog has changed by it.
+    fn tell_end(&self, changes_catalog: bool) {
+        if changes_catalog {
+            self.wake_all();
+        } else {
+            self.wake();
         }
     }
 
@@ -192,29 +228,6 @@ impl<'r, 'g, N: Beginning<J>, J: Journal, R: Wait, G: Gate> Shared<'r, 'g, N, J,
             return Request::of(self.alloc, self.registry, &self.script, at, indexes);
         }
         Request::of(self.alloc, self.registry, &self.script, at, None)
-    }
-
-    /// Asks for the locks of a request, one after the other, each in a section of its own; and tells how the turn ends
-    /// where one is not granted.
-    fn ask_for_all(&self, request: &Request<N>) -> Result<Option<Step>, Memory>
-        ensures { IfOk result (λ step. IfSome step (IsStep N.registry)) }
-    {
-        for index in 0..request.locks().len() {
-            let (asked, seen) = self
-                .engine
-                .lock(self.rt)
-                .ask_for(self.registry, request, index)?;
-            match asked {
-                Asked::Granted => {}
-                Asked::Waits => return Ok(Some(Step::Wait(seen))),
-                Asked::Died => {
-                    self.wake();
-                    return Ok(Some(Step::Again));
-                }
-                Asked::Elsewhere => return Ok(Some(Step::Again)),
-            }
-        }
-        Ok(None)
     }
 
     /// The old rows of a migration by their values: those that are shared, or else new ones, which are shared from then on.
@@ -232,7 +245,7 @@ impl<'r, 'g, N: Beginning<J>, J: Journal, R: Wait, G: Gate> Shared<'r, 'g, N, J,
         }
         let made = Arc::new(self.alloc, Lookups::of(self.alloc, self.registry, pass)?)?;
         let shared = Arc::try_clone(&made)?;
-        self.engine.lock(self.rt).share_lookups(shared);
+        self.engine().share_lookups(shared);
         drop(making);
         Ok(made)
     }
@@ -249,7 +262,7 @@ impl<'r, 'g, N: Beginning<J>, J: Journal, R: Wait, G: Gate> Shared<'r, 'g, N, J,
         ensures { IfOk result (λ found. IfSome found
             (λ lookups. (arc_value lookups).value ≡ pass.now.value)) }
     {
-        let kept = self.engine.lock(self.rt).lookups()?;
+        let kept = self.engine().lookups()?;
         match kept {
             Some(found) if found.are_of(self.registry, pass) => Ok(Some(found)),
             _ => Ok(None),
@@ -264,6 +277,6 @@ impl<'r, 'g, N: Beginning<J>, J: Journal, R: Wait, G: Gate> Shared<'r, 'g, N, J,
         requires { Shows N.registry.migrations pass.now }
         ensures { IfOk result (λ seat. IfSome seat (IsFreshSeatOf pass.now.value)) }
     {
-        self.engine.lock(self.rt).seat(self.registry, pass)
+        self.engine().seat(self.registry, pass)
     }
 }
