@@ -96,7 +96,10 @@ impl<'r, 'g, N: Beginning<J>, J: Journal, R: Wait, G: Gate> Bench for Shared<'r,
             seats.note_session_ended(self.alloc, session);
             return Ok(Turn::Ended);
         }
-        match self.take_turn(session)? {
+        let mut next = seats.take_next(session);
+        let step = self.take_turn(session, &mut next)?;
+        seats.keep_next(next);
+        match step {
             Step::Again => {
                 seats.note_nothing(self.alloc);
                 Ok(Turn::Again)

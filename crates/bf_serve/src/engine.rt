@@ -146,8 +146,8 @@ pub(crate) enum Due<N: Opened> {
     Wait(u64),
     /// Each of its statements has its reply.
     Ended,
-    /// A statement is to be made ready; and whether anything of the last migration is left to move.
-    Statement(Position<N>, bool),
+    /// A statement is to be made ready.
+    Statement(Position<N>),
 }
 
 impl<N: Beginning<J>, J: Journal> Engine<N, J> {
@@ -406,9 +406,9 @@ impl<N: Beginning<J>, J: Journal> Engine<N, J> {
         self.machine.place(session)
     }
 
-    /// Where a session stands whose next statement is to be made ready, and whether anything of the last migration is
-    /// left to move. `None` where no statement is next, and where there is no pass of the catalog.
-    fn position(&self, session: u32) -> Option<(Position<N>, bool)>
+    /// Where a session stands whose next statement is to be made ready. `None` where no statement is next, and where there is
+    /// no pass of the catalog.
+    fn position(&self, session: u32) -> Option<Position<N>>
         requires place { IsPlace N.script session }
     {
         // Their contracts say that the script is the one that the type names, and that the catalog is a database's.
@@ -422,15 +422,27 @@ impl<N: Beginning<J>, J: Journal> Engine<N, J> {
         };
         let migration = self.machine.migration();
         let is_left = migration.is_some() && !self.machine.is_complete();
-        let at = Position {
+        Some(Position {
             session,
             place,
             in_block: self.machine.is_in_block(session),
             catalog: catalog.copy(),
             migration,
+            is_left,
             opened: PhantomData,
-        };
-        Some((at, is_left))
+        })
+    }
+
+    /// Begins a session's next group where that is what it stands at, and tells where its next statement is to be made
+    /// ready. `None` as for a position.
+    ///
+    /// # Errors
+    /// Where memory runs out.
+    fn begin_and_stand(&mut self, session: u32) -> Result<Option<Position<N>>, Memory>
+        requires place { IsPlace N.script session }
+    {
+        self.begin(session)?;
+        Ok(self.position(session))
     }
 
     /// What a session is to do next; and begins or ends its group, where that is it.
@@ -451,13 +463,10 @@ impl<N: Beginning<J>, J: Journal> Engine<N, J> {
         }
         let _ = self.machine.script();
         match self.machine.stand(session) {
-            Stand::Begin => {
-                self.begin(session)?;
-                match self.position(session) {
-                    Some((at, is_left)) => Ok(Due::Statement(at, is_left)),
-                    None => Ok(Due::Again),
-                }
-            }
+            Stand::Begin => match self.begin_and_stand(session)? {
+                Some(at) => Ok(Due::Statement(at)),
+                None => Ok(Due::Again),
+            },
             Stand::Commit => {
                 let by = self.end_of(session);
                 let changes_catalog = self.end_group(rt, registry, session)?;
@@ -476,7 +485,7 @@ impl<N: Beginning<J>, J: Journal> Engine<N, J> {
                 })
             }
             Stand::Statement(_) => match self.position(session) {
-                Some((at, is_left)) => Ok(Due::Statement(at, is_left)),
+                Some(at) => Ok(Due::Statement(at)),
                 None => Err(Memory),
             },
             Stand::Named(_) | Stand::Later => Ok(Due::Wait(self.count)),
@@ -574,12 +583,12 @@ impl<N: Beginning<J>, J: Journal> Engine<N, J> {
         Ok(Served::Ended { changes_catalog })
     }
 
-    /// Serves a statement that was made ready: asks for its locks, replies to it where its group holds them all, and ends
-    /// its group where nothing of it is left.
+    /// Asks for the locks of a statement that was made ready, replies to it where its group holds them all, and ends its
+    /// group where nothing of it is left.
     ///
     /// # Errors
     /// Where memory runs out, 2 ^ 32 rows or more change, or too much has changed.
-    pub(crate) fn serve<R: Wait>(
+    fn drive<R: Wait>(
         &mut self,
         rt: &R,
         registry: &Registry,
@@ -599,6 +608,33 @@ impl<N: Beginning<J>, J: Journal> Engine<N, J> {
             Ran::Need(granules) => Ok(Served::Need(granules, self.count)),
             Ran::Elsewhere => Ok(Served::Elsewhere),
         }
+    }
+
+    /// Serves a statement that was made ready, and tells behind its reply where its session stands then, if at another
+    /// one: the reads of a session so take the lock once a statement.
+    ///
+    /// # Errors
+    /// Where memory runs out, or ran out before, 2 ^ 32 rows or more change, or too much has changed.
+    pub(crate) fn serve<R: Wait>(
+        &mut self,
+        rt: &R,
+        registry: &Registry,
+        request: &Request<N>,
+    ) -> Result<(Served, Option<Position<N>>), Memory>
+        requires registry { registry.now ≡ N.registry }
+        ensures { IfOk result (λ told. AreNeededIfServed request.now told.0) }
+    {
+        if self.out_of_memory {
+            return Err(Memory);
+        }
+        let served = self.drive(rt, registry, request)?;
+        let next = match &served {
+            Served::Replied | Served::Ended { .. } => {
+                self.begin_and_stand(request.at().session())?
+            }
+            _ => None,
+        };
+        Ok((served, next))
     }
 
     /// Does the work that a session needs, or a worker found, as one record of moves, by the images of its granules. `None`

@@ -31,6 +31,8 @@ pub struct Position<N: Opened> {
     pub(crate) in_block: bool,
     pub(crate) catalog: CatalogPass,
     pub(crate) migration: Option<MigrationPass>,
+    /// Whether anything of the migration was left to move.
+    pub(crate) is_left: bool,
     pub(crate) opened: PhantomData<N>,
 }
 

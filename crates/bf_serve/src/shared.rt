@@ -157,12 +157,20 @@ impl<'r, 'g, N: Beginning<J>, J: Journal, R: Wait, G: Gate> Shared<'r, 'g, N, J,
         Seats::of(self.alloc, None)
     }
 
-    /// One turn of a session: its next group begins, or its open one ends, or its next statement is made ready and driven until
-    /// it has its reply, waits or dies, or needs granules that have not moved.
-    pub(crate) fn take_turn(&self, session: u32) -> Result<Step, Memory>
-        requires { IsPlace self.now.script session }
+    /// One turn of a session: its open group ends, or its next statement is made ready and served until it has its reply, waits
+    /// or dies, or needs granules that have not moved. It begins with the position that its last turn left, if it left
+    /// one, and leaves the next one behind a reply.
+    pub(crate) fn take_turn(
+        &self,
+        session: u32,
+        next: &mut Option<Position<N>>,
+    ) -> Result<Step, Memory>
+        requires { IsPlace N.script session }
         ensures { IfOk result (IsStep N.registry) }
     {
+        if let Some(at) = next.take() {
+            return self.drive(at, next);
+        }
         let due = self.engine().next(self.rt, self.registry, session)?;
         match due {
             Due::Again => Ok(Step::Again),
@@ -181,16 +189,17 @@ impl<'r, 'g, N: Beginning<J>, J: Journal, R: Wait, G: Gate> Shared<'r, 'g, N, J,
                 self.wake_all();
                 Ok(Step::Ended)
             }
-            Due::Statement(at, is_left) => self.drive(at, is_left),
+            Due::Statement(at) => self.drive(at, next),
         }
     }
 
-    /// Makes a statement ready, and drives it.
-    fn drive(&self, at: Position<N>, is_left: bool) -> Result<Step, Memory>
+    /// Makes a statement ready, and serves it.
+    fn drive(&self, at: Position<N>, next: &mut Option<Position<N>>) -> Result<Step, Memory>
         ensures { IfOk result (IsStep N.registry) }
     {
-        let request = self.make_ready(at, is_left)?;
-        let served = self.engine().serve(self.rt, self.registry, &request)?;
+        let request = self.make_ready(at)?;
+        let (served, position) = self.engine().serve(self.rt, self.registry, &request)?;
+        *next = position;
         match (served, request.at().migration()) {
             (Served::Replied, _) => Ok(Step::Replied(request.at().place())),
             (Served::Ended { changes_catalog }, _) => {
@@ -219,9 +228,9 @@ impl<'r, 'g, N: Beginning<J>, J: Journal, R: Wait, G: Gate> Shared<'r, 'g, N, J,
     }
 
     /// A statement made ready, by the old rows of the migration by their values where something of it is left to move.
-    fn make_ready(&self, at: Position<N>, is_left: bool) -> Result<Request<N>, Memory> {
+    fn make_ready(&self, at: Position<N>) -> Result<Request<N>, Memory> {
         if let Some(pass) = at.migration()
-            && is_left
+            && at.is_left
         {
             let lookups = self.lookups(pass)?;
             let indexes = Some(lookups.indexes());
