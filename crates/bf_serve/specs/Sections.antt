@@ -1,5 +1,6 @@
 -- What a section under the lock hands out.
 use Rattle.std.specs.Prelude.{◌≡◌, ◌≢◌, ℕ, Some, slice_get}
+use Rattle.bf_locks.specs.declared.answer.LockAnswer.{LockAnswer}
 use Rattle.bf_locks.specs.declared.answer.LockAnswer.TheVariants as told
 use Rattle.bf_sql.specs.Database.{Database}
 use Rattle.bf_sql.specs.Footprints.{Lock}
@@ -28,12 +29,15 @@ IsReplied served.Replied = Unit {0}
 IsReplied (served.Ended changes) = Unit {0}
 IsReplied other = ⊥
 
--- ASKED: what a machine told of one lock of a request; elsewhere nothing has happened
-abbrev pub IsAskedFor : Database → Machine → Request → Lock → Asked → Machine → Type 0
-IsAskedFor start m r lock Granted next = Asks m r.at.session start lock.0 lock.1 told.Granted next
-IsAskedFor start m r lock Waits next = (younger : ℕ) × Asks m r.at.session start lock.0 lock.1 (told.Wait younger) next
-IsAskedFor start m r lock Died next = (older : ℕ) × Asks m r.at.session start lock.0 lock.1 (told.Die older) next
-IsAskedFor start m r lock Elsewhere next = next ≡ m
+-- granted; or others have it, all of them younger; or an older one has it
+abbrev pub AnswersAs : Asked → LockAnswer → Type 0
+AnswersAs Granted told.Granted = Unit {0}
+AnswersAs Waits (told.Wait younger) = Unit {0}
+AnswersAs Died (told.Die older) = Unit {0}
+AnswersAs asked answer = ⊥
 
+-- ASKED: what a machine answered of one lock of a request; elsewhere nothing has happened
 abbrev pub IsAskedAs : Database → Machine → Request → ℕ → Machine → Asked → Type 0
-IsAskedAs start m r index next asked = (lock : Lock) × (slice_get r.locks index ≡ Some lock) × IsAskedFor start m r lock asked next
+IsAskedAs start m r index next Elsewhere = next ≡ m
+IsAskedAs start m r index next asked =
+    (lock : Lock) × (slice_get r.locks index ≡ Some lock) × (answer : LockAnswer) × AnswersAs asked answer × Asks m r.at.session start lock.0 lock.1 answer next

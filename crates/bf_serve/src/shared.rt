@@ -17,15 +17,7 @@ use bf_image::{MigrationPass, Registry};
 use bf_machine::{Journal, Lookups};
 use bf_tree::Script;
 use std::alloc::Global;
-use std::hint::spin_loop;
 use std::sync::{Arc, Condvar, Mutex, MutexGuard, Wait};
-
-/// How often an actor looks whether the lock is free before it sleeps. A section without a device takes a few microseconds, and a
-/// sleep with its waking as long as several of them.
-const LOOKS: u32 = 40;
-
-/// How long an actor pauses between two looks.
-const PAUSES: u32 = 8;
 
 /// A machine beside its journal under a lock, and what the threads of a run read without it.
 pub struct Shared<'r, 'g, N: Beginning<J>, J: Journal, R: Wait, G: Gate> {
@@ -61,16 +53,8 @@ pub(crate) enum Step {
 }
 
 impl<'r, 'g, N: Beginning<J>, J: Journal, R: Wait, G: Gate> Shared<'r, 'g, N, J, R, G> {
-    /// The engine, once no one else has it: it looks a few times, and then sleeps until it is woken.
+    /// The engine, once no one else has it.
     pub(crate) fn engine(&self) -> MutexGuard<'_, Engine<N, J>> {
-        for _ in 0..LOOKS {
-            if let Some(engine) = self.engine.try_lock() {
-                return engine;
-            }
-            for _ in 0..PAUSES {
-                spin_loop();
-            }
-        }
         self.engine.lock(self.rt)
     }
 
