@@ -6,12 +6,12 @@ ghost use Rattle.bf_bench.specs.Notes.{noting};
 ghost use Rattle.bf_machine.specs.interleaving.Calls.{IsPlace};
 ghost use Rattle.bf_serve.specs.Seats.{Hold, IsSeatOf};
 
-use crate::ahead::{Ahead, granules_between};
+use crate::ahead::{Ahead, granules_between, most_granules};
 use crate::engine::{Beginning, MovedWork};
 use crate::seats::Seats;
 use crate::shared::{Shared, Step};
 use bf_base::{Granule, Memory};
-use bf_bench::{Bench, Carried, Gate, Left, Taken, Turn};
+use bf_bench::{Bench, Carried, Gate, Left, News, Taken, Turn};
 use bf_drive::Wip;
 use bf_image::MigrationPass;
 use bf_machine::Journal;
@@ -178,12 +178,19 @@ impl<'r, 'g, N: Beginning<J>, J: Journal, R: Wait, G: Gate> Bench for Shared<'r,
                 return Err(memory);
             }
         };
+        let last = self.registry.migration(work.pass());
+        let news = News::Moved {
+            migration: last.number,
+            granules: work.granules().len() as u32,
+            most: most_granules(last),
+        };
         let moved = self.move_work(seats.session(), &work);
         let wip = work.into_wip();
         match moved {
             Ok(Some(moved)) => {
                 seats.finish(self.rt, wip, moved);
                 self.note_finished();
+                self.gate.tell(news);
                 Ok(Carried::Moved)
             }
             Ok(None) => {

@@ -12,7 +12,7 @@ use crate::engine::{Beginning, Due, Engine, Phase, Served};
 use crate::requests::{Position, Request};
 use crate::seats::{Seat, Seats};
 use bf_base::{Granule, Memory};
-use bf_bench::Gate;
+use bf_bench::{Gate, News};
 use bf_image::{MigrationPass, Registry};
 use bf_machine::{Journal, Lookups};
 use bf_tree::Script;
@@ -202,8 +202,9 @@ impl<'r, 'g, N: Beginning<J>, J: Journal, R: Wait, G: Gate> Shared<'r, 'g, N, J,
         }
     }
 
-    /// Tells those who wait that a group has ended; workers too where the catalog has changed by it.
+    /// Tells those who wait that a group has ended, and the gate; workers too where the catalog has changed by it.
     fn tell_end(&self, changes_catalog: bool) {
+        self.gate.tell(News::Ended);
         if changes_catalog {
             self.wake_all();
         } else {
