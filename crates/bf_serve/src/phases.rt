@@ -70,7 +70,7 @@ fn number_from(first: u32, place: usize) -> u32 {
     }
 }
 
-/// Serves an actor of the present phase: a session, or behind those a worker.
+/// Serves an actor of the present phase: a worker, or behind those a session.
 ///
 /// # Errors
 /// Where memory runs out, or ran out for another actor. Each actor ends then.
@@ -80,14 +80,15 @@ fn serve_actor<N: Beginning<J>, J: Journal, R: Wait, G: Gate>(
 ) -> Result<(), Memory> {
     let (rt, alloc, gate) = (shared.rt, shared.alloc, shared.gate);
     let phase = shared.phase();
-    let served = if place < phase.sessions {
-        let session = number_from(FIRST_SESSION, phase.from.saturating_add(place));
-        let mut seats = shared.seats_of(session);
-        serve_session(rt, alloc, shared, gate, &mut seats, session)
-    } else {
-        let worker = number_from(FIRST_WORKER, place - phase.sessions);
+    let served = if place < phase.workers {
+        let worker = number_from(FIRST_WORKER, place);
         let mut seats = Seats::of(alloc, None);
         serve_worker(rt, alloc, shared, gate, &mut seats, worker)
+    } else {
+        let before = phase.from.saturating_add(place - phase.workers);
+        let session = number_from(FIRST_SESSION, before);
+        let mut seats = shared.seats_of(session);
+        serve_session(rt, alloc, shared, gate, &mut seats, session)
     };
     if served.is_err() {
         shared.run_out();
@@ -95,8 +96,9 @@ fn serve_actor<N: Beginning<J>, J: Journal, R: Wait, G: Gate>(
     served
 }
 
-/// Serves so many actors of the present phase at the same time, each on a thread of its own; one alone on the caller's. Its workers
-/// stand behind its sessions: where no thread can be made, one actor is served behind the other.
+/// Serves so many actors of the present phase at the same time, each on a thread of its own; one alone on the caller's. Where a
+/// thread can't be made, an actor is served behind those that stand behind it; so its workers, who stay until all
+/// sessions have ended, stand in front of them.
 ///
 /// # Errors
 /// Where memory runs out. Each thread has ended then.
