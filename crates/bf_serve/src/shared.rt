@@ -105,21 +105,17 @@ impl<'r, 'g, N: Beginning<J>, J: Journal, R: Wait, G: Gate> Shared<'r, 'g, N, J,
 
     /// Waits as a session until more has happened than a count tells, or memory has run out.
     pub(crate) fn wait_for(&self, seen: u64) {
-        let engine = self
-            .happened
-            .wait_while(self.rt, self.engine(), |engine| {
-                engine.count() <= seen && !engine.is_out_of_memory()
-            });
+        let engine = self.happened.wait_while(self.rt, self.engine(), |engine| {
+            engine.count() <= seen && !engine.is_out_of_memory()
+        });
         drop(engine);
     }
 
     /// Rests as a worker until more has happened that workers rest for than a count tells, or memory has run out.
     pub(crate) fn rest_for(&self, seen: u64) {
-        let engine = self
-            .called
-            .wait_while(self.rt, self.engine(), |engine| {
-                engine.calls() <= seen && !engine.is_out_of_memory()
-            });
+        let engine = self.called.wait_while(self.rt, self.engine(), |engine| {
+            engine.calls() <= seen && !engine.is_out_of_memory()
+        });
         drop(engine);
     }
 
