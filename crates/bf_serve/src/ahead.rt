@@ -99,7 +99,10 @@ pub(crate) fn most_granules(migration: &Migration) -> u64
 {
     let mut most = 0u64;
     for unit in 0..migration.plan.units.as_slice().len() {
-        most = most.saturating_add(positions(migration, unit as u8) as u64);
+        let Ok(unit) = u8::try_from(unit) else {
+            return most;
+        };
+        most = most.saturating_add(positions(migration, unit) as u64);
     }
     most
 }

@@ -513,17 +513,12 @@ impl<N: Beginning<J>, J: Journal> Engine<N, J> {
         let Engine {
             machine,
             catalog,
-            count,
             ..
         } = self;
         // Their contracts say that the script is the one that the type names, and has the session.
         let _ = machine.script();
         let _ = request.at();
-        let asked = ask_for(registry, machine, catalog, request, index)?;
-        if asked == Asked::Died {
-            *count = count.saturating_add(1);
-        }
-        Ok(asked)
+        ask_for(registry, machine, catalog, request, index)
     }
 
     /// Asks for the locks of a statement that was made ready, one after the other, up to the first that is not granted.
@@ -600,7 +595,10 @@ impl<N: Beginning<J>, J: Journal> Engine<N, J> {
         match self.ask_for_all(registry, request)? {
             Asked::Granted => {}
             Asked::Waits => return Ok(Served::Waits(self.count)),
-            Asked::Died => return Ok(Served::Died),
+            Asked::Died => {
+                self.happened();
+                return Ok(Served::Died);
+            }
             Asked::Elsewhere => return Ok(Served::Elsewhere),
         }
         match self.run_statement(registry, request)? {
