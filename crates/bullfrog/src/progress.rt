@@ -83,8 +83,7 @@ impl Gate for Progress {
                     self.granules.store(0, Ordering::Relaxed);
                     self.most.store(most, Ordering::Relaxed);
                 }
-                self.granules
-                    .fetch_add(granules as u64, Ordering::Relaxed);
+                self.granules.fetch_add(granules as u64, Ordering::Relaxed);
             }
         }
         let steps = self.steps.fetch_add(1, Ordering::Relaxed);
