@@ -19,7 +19,7 @@ from kills import Log, Threads
 
 # How long a run may take, in seconds; one that leaves a thread behind takes longer.
 LIMIT = 60
-LEAST, MOST = 1 << 23, 1 << 29
+LEAST, MOST = 5 << 20, 1 << 26
 
 
 def bounded(log, kept, size):
