@@ -1,0 +1,209 @@
+-- The replies that are one line and tell no cause, by their forms.
+use Rattle.std.proofs.Common.{◌≡◌, ◌⊎◌, ℕ, suc, ◌+◌, ◌<◌, ◌≤◌, Bool, true, false, ◌&&◌, IsTrue, List, [], ◌∷◌, ◌++◌, length, get_or, drop, codes, Option, None, Some, refl, sym, ap, subst, ◌∙◌, append_assoc, inl, inr, arith}
+use Rattle.std.specs.Prelude.{⊤}
+use Rattle.std.specs.List.{AllByRecursion, list_all}
+use Rattle.std.specs.Option.{option_map}
+use Rattle.std.proofs.lemmas.Bool.{and_from, and_parts, both_ways}
+use Rattle.std.proofs.lemmas.List.{drop_more}
+use Rattle.std.specs.Fmt.{decimal}
+use Rattle.bf_base.specs.Names.{is_name}
+use Rattle.bf_base.specs.declared.value.Value.{Value}
+use Rattle.bf_tree.specs.declared.reply.Refusal.{Refusal}
+use Rattle.bf_tree.specs.declared.reply.Refusal.TheVariants as refusal
+use Rattle.bf_tree.specs.declared.reply.Reply.{Reply}
+use Rattle.bf_tree.specs.declared.reply.Reply.TheVariants as reply
+use Rattle.bf_text.specs.Numbers.{is_u64}
+use Rattle.bf_text.specs.Replies.{newline, values_text}
+use Rattle.bf_text.specs.Told.{is_named}
+use Rattle.bf_verdict.specs.Room.{is_u8, is_u32, reply_has_room}
+use Rattle.bf_report.specs.Behind.{IsBehind}
+use Rattle.bf_report.specs.Lines.{EndsLine, Finds, Reads, is_plain, key_fits, key_line, name_line, named_line, number_line, plain_fits, plain_text, table_fits}
+use Rattle.bf_report.specs.Forms.{Told, form_text, tail_fits, tail_text}
+use Rattle.bf_report.specs.declared.forms.Tail.{Tail}
+use Rattle.bf_report.specs.declared.forms.Tail.TheVariants as tail
+use Rattle.bf_report.proofs.Finds.{found_as, found_read}
+
+-- ---- tails
+
+abbrev FindsTail : Tail → List ℕ → Option (List ℕ) → Type 0
+FindsTail end text r = Finds (tail_text end) (tail_fits end) text r
+
+abbrev with_number : ℕ → Told
+with_number n = record { name = []; number = n; key = [] }
+
+abbrev with_name : List ℕ → Told
+with_name name = record { name = name; number = 0; key = [] }
+
+abbrev with_both : List ℕ × ℕ → Told
+with_both named = record { name = named.0; number = named.1; key = [] }
+
+abbrev with_key : List Value → Told
+with_key key = record { name = []; number = 0; key = key }
+
+pub no_tail : (text : List ℕ) (r : Option (List ℕ)) → IsBehind newline text r → FindsTail tail.Nothing text r
+no_tail text None h = λ told rest fit written. h rest written
+no_tail text (Some rest) h = (with_number 0, refl, h)
+
+pub byte_tail : (text : List ℕ) (r : Option (ℕ × List ℕ)) → Reads number_line is_u8 EndsLine text r → FindsTail tail.Byte text (option_map (λ p. p.1) r)
+byte_tail text r h =
+    found_as number_line is_u8 (tail_text tail.Byte) (tail_fits tail.Byte) with_number (λ told. told.number) (λ n k. k) (λ n k. refl)
+    (λ told k. k) (λ told k. refl) text (option_map (λ p. p.1) r) (found_read number_line is_u8 text r h)
+
+pub short_tail : (text : List ℕ) (r : Option (ℕ × List ℕ)) → Reads number_line is_u32 EndsLine text r → FindsTail tail.Short text (option_map (λ p. p.1) r)
+short_tail text r h =
+    found_as number_line is_u32 (tail_text tail.Short) (tail_fits tail.Short) with_number (λ told. told.number) (λ n k. k) (λ n k. refl)
+    (λ told k. k) (λ told k. refl) text (option_map (λ p. p.1) r) (found_read number_line is_u32 text r h)
+
+pub long_tail : (text : List ℕ) (r : Option (ℕ × List ℕ)) → Reads number_line is_u64 EndsLine text r → FindsTail tail.Long text (option_map (λ p. p.1) r)
+long_tail text r h =
+    found_as number_line is_u64 (tail_text tail.Long) (tail_fits tail.Long) with_number (λ told. told.number) (λ n k. k) (λ n k. refl)
+    (λ told k. k) (λ told k. refl) text (option_map (λ p. p.1) r) (found_read number_line is_u64 text r h)
+
+pub name_tail : (text : List ℕ) (r : Option (List ℕ)) → Finds name_line is_name text r → FindsTail tail.Name text r
+name_tail text r h =
+    found_as name_line is_name (tail_text tail.Name) (tail_fits tail.Name) with_name (λ told. told.name) (λ n k. k) (λ n k. refl)
+    (λ told k. k) (λ told k. refl) text r h
+
+pub item_tail : (text : List ℕ) (r : Option ((List ℕ × ℕ) × List ℕ)) → Reads (named_line (codes " item ")) table_fits EndsLine text r
+    → FindsTail tail.NameAndItem text (option_map (λ p. p.1) r)
+item_tail text r h =
+    found_as (named_line (codes " item ")) table_fits (tail_text tail.NameAndItem) (tail_fits tail.NameAndItem) with_both
+    (λ told. (told.name, told.number)) (λ n k. k) (λ n k. refl) (λ told k. k) (λ told k. refl) text (option_map (λ p. p.1) r)
+    (found_read (named_line (codes " item ")) table_fits text r h)
+
+pub rows_tail : (text : List ℕ) (r : Option ((List ℕ × ℕ) × List ℕ)) → Reads (named_line (codes " ")) table_fits EndsLine text r
+    → FindsTail tail.NameAndRows text (option_map (λ p. p.1) r)
+rows_tail text r h =
+    found_as (named_line (codes " ")) table_fits (tail_text tail.NameAndRows) (tail_fits tail.NameAndRows) with_both
+    (λ told. (told.name, told.number)) (λ n k. k) (λ n k. refl) (λ told k. k) (λ told k. refl) text (option_map (λ p. p.1) r)
+    (found_read (named_line (codes " ")) table_fits text r h)
+
+pub key_tail : (text : List ℕ) (r : Option (List ℕ)) → Finds key_line key_fits text r → FindsTail tail.Key text r
+key_tail text r h =
+    found_as key_line key_fits (tail_text tail.Key) (tail_fits tail.Key) with_key (λ told. told.key) (λ n k. k) (λ n k. refl)
+    (λ told k. k) (λ told k. refl) text r h
+
+-- ---- the forms
+
+abbrev pub Form : Type 0
+Form = List ℕ × Tail
+
+abbrev pub forms : List Form
+forms =
+    (codes "inserted ", tail.Short) ∷
+    (codes "updated ", tail.Short) ∷
+    (codes "deleted ", tail.Short) ∷
+    (codes "committed ", tail.Long) ∷
+    (codes "begun", tail.Nothing) ∷
+    (codes "rolled back", tail.Nothing) ∷
+    (codes "created", tail.Nothing) ∷
+    (codes "migrated ", tail.Byte) ∷
+    (codes "E1 no table ", tail.Name) ∷
+    (codes "E2 no column ", tail.Name) ∷
+    (codes "E3 type mismatch", tail.Nothing) ∷
+    (codes "E4 duplicate key (", tail.Key) ∷
+    (codes "E5 out of range", tail.Nothing) ∷
+    (codes "E6 too long", tail.Nothing) ∷
+    (codes "E7 table exists ", tail.Name) ∷
+    (codes "E8 wrong count", tail.Nothing) ∷
+    (codes "E9 key column ", tail.Name) ∷
+    (codes "E10 no transaction", tail.Nothing) ∷
+    (codes "E11 in transaction", tail.Nothing) ∷
+    (codes "E12 must be alone", tail.Nothing) ∷
+    (codes "E13 name twice ", tail.Name) ∷
+    (codes "E14 may fail ", tail.NameAndItem) ∷
+    (codes "E15 key not inherited ", tail.Name) ∷
+    (codes "E16 source unknown ", tail.Name) ∷
+    (codes "E17 too many rows ", tail.NameAndRows) ∷
+    (codes "E18 unit limit ", tail.Short) ∷
+    (codes "E19 index exists ", tail.Name) ∷
+    []
+
+-- one name in front of what else is tested
+name_alone : (p : Bool) → ((p && true) && true) ≡ p
+name_alone true = refl
+name_alone false = refl
+
+name_first : (p q : Bool) → ((p && true) && q) ≡ (p && q)
+name_first true q = refl
+name_first false q = refl
+
+named_end : (words name more : List ℕ) (n : ℕ) → ((words ++ name) ++ (more ++ decimal n)) ++ newline ≡ words ++ (name ++ (more ++ (decimal n ++ newline)))
+named_end words name more n = simp append_assoc
+
+key_end : (key : List Value) → (codes "E4 duplicate key (" ++ values_text key ++ codes ")") ++ newline ≡ codes "E4 duplicate key (" ++ key_line key
+key_end key = ap (λ (z : List ℕ). codes "E4 duplicate key (" ++ z) (append_assoc (values_text key) (codes ")") newline)
+
+-- what a form tells is a reply
+abbrev Makes : Form → Type 0
+Makes form = (t : Told) → IsTrue (tail_fits form.1 t) → (r : Reply) × IsTrue (plain_fits r) × (plain_text r ≡ form_text form.0 form.1 t)
+
+all_make : AllByRecursion Makes forms
+all_make =
+    (λ t h. (reply.Inserted t.number, h, refl),
+    (λ t h. (reply.Updated t.number, h, refl),
+    (λ t h. (reply.Deleted t.number, h, refl),
+    (λ t h. (reply.Committed t.number, h, refl),
+    (λ t h. (reply.Begun, refl, refl),
+    (λ t h. (reply.RolledBack, refl, refl),
+    (λ t h. (reply.Created, refl, refl),
+    (λ t h. (reply.Migrated t.number, h, refl),
+    (λ t h. (reply.Refused (refusal.NoTable t.name), name_alone (is_name t.name) ∙ h, append_assoc (codes "E1 no table ") t.name newline),
+    (λ t h. (reply.Refused (refusal.NoColumn t.name), name_alone (is_name t.name) ∙ h, append_assoc (codes "E2 no column ") t.name newline),
+    (λ t h. (reply.Refused refusal.TypeMismatch, refl, refl),
+    (λ t h. (reply.Refused (refusal.DuplicateKey t.key), h, key_end t.key),
+    (λ t h. (reply.Refused refusal.OutOfRange, refl, refl),
+    (λ t h. (reply.Refused refusal.TooLong, refl, refl),
+    (λ t h. (reply.Refused (refusal.TableExists t.name), name_alone (is_name t.name) ∙ h, append_assoc (codes "E7 table exists ") t.name newline),
+    (λ t h. (reply.Refused refusal.WrongCount, refl, refl),
+    (λ t h. (reply.Refused (refusal.KeyColumn t.name), name_alone (is_name t.name) ∙ h, append_assoc (codes "E9 key column ") t.name newline),
+    (λ t h. (reply.Refused refusal.NoTransaction, refl, refl),
+    (λ t h. (reply.Refused refusal.InTransaction, refl, refl),
+    (λ t h. (reply.Refused refusal.MustBeAlone, refl, refl),
+    (λ t h. (reply.Refused (refusal.NameTwice t.name), name_alone (is_name t.name) ∙ h, append_assoc (codes "E13 name twice ") t.name newline),
+    (λ t h. (reply.Refused (refusal.MayFail t.name t.number), name_first (is_name t.name) (is_u32 t.number) ∙ h, named_end (codes "E14 may fail ") t.name (codes " item ") t.number),
+    (λ t h. (reply.Refused (refusal.KeyNotInherited t.name), name_alone (is_name t.name) ∙ h, append_assoc (codes "E15 key not inherited ") t.name newline),
+    (λ t h. (reply.Refused (refusal.SourceUnknown t.name), name_alone (is_name t.name) ∙ h, append_assoc (codes "E16 source unknown ") t.name newline),
+    (λ t h. (reply.Refused (refusal.TooManyRows t.name t.number), name_first (is_name t.name) (is_u32 t.number) ∙ h, named_end (codes "E17 too many rows ") t.name (codes " ") t.number),
+    (λ t h. (reply.Refused (refusal.UnitLimit t.number), h, refl),
+    (λ t h. (reply.Refused (refusal.IndexExists t.name), name_alone (is_name t.name) ∙ h, append_assoc (codes "E19 index exists ") t.name newline),
+    tt)))))))))))))))))))))))))))
+
+-- a reply is of a form
+abbrev OneOf : (Form → Type 0) → List Form → Type 0
+OneOf P [] = ⊥
+OneOf P (form ∷ fs) = P form ⊎ OneOf P fs
+
+abbrev Tells : Reply → Form → Type 0
+Tells r form = (t : Told) × IsTrue (tail_fits form.1 t) × (plain_text r ≡ form_text form.0 form.1 t)
+
+of_form : (r : Reply) → IsTrue (plain_fits r) → OneOf (Tells r) forms
+of_form (reply.Inserted k) h = inl (with_number k, h, refl)
+of_form (reply.Updated k) h = inr (inl (with_number k, h, refl))
+of_form (reply.Deleted k) h = inr (inr (inl (with_number k, h, refl)))
+of_form (reply.Committed k) h = inr (inr (inr (inl (with_number k, h, refl))))
+of_form reply.Begun h = inr (inr (inr (inr (inl (with_number 0, refl, refl)))))
+of_form reply.RolledBack h = inr (inr (inr (inr (inr (inl (with_number 0, refl, refl))))))
+of_form reply.Created h = inr (inr (inr (inr (inr (inr (inl (with_number 0, refl, refl)))))))
+of_form (reply.Migrated k) h = inr (inr (inr (inr (inr (inr (inr (inl (with_number k, h, refl))))))))
+of_form (reply.Refused (refusal.NoTable name)) h = inr (inr (inr (inr (inr (inr (inr (inr (inl (with_name name, sym (name_alone (is_name name)) ∙ h, append_assoc (codes "E1 no table ") name newline)))))))))
+of_form (reply.Refused (refusal.NoColumn name)) h = inr (inr (inr (inr (inr (inr (inr (inr (inr (inl (with_name name, sym (name_alone (is_name name)) ∙ h, append_assoc (codes "E2 no column ") name newline))))))))))
+of_form (reply.Refused refusal.TypeMismatch) h = inr (inr (inr (inr (inr (inr (inr (inr (inr (inr (inl (with_number 0, refl, refl)))))))))))
+of_form (reply.Refused (refusal.DuplicateKey key)) h = inr (inr (inr (inr (inr (inr (inr (inr (inr (inr (inr (inl (with_key key, h, key_end key))))))))))))
+of_form (reply.Refused refusal.OutOfRange) h = inr (inr (inr (inr (inr (inr (inr (inr (inr (inr (inr (inr (inl (with_number 0, refl, refl)))))))))))))
+of_form (reply.Refused refusal.TooLong) h = inr (inr (inr (inr (inr (inr (inr (inr (inr (inr (inr (inr (inr (inl (with_number 0, refl, refl))))))))))))))
+of_form (reply.Refused (refusal.TableExists name)) h = inr (inr (inr (inr (inr (inr (inr (inr (inr (inr (inr (inr (inr (inr (inl (with_name name, sym (name_alone (is_name name)) ∙ h, append_assoc (codes "E7 table exists ") name newline)))))))))))))))
+of_form (reply.Refused refusal.WrongCount) h = inr (inr (inr (inr (inr (inr (inr (inr (inr (inr (inr (inr (inr (inr (inr (inl (with_number 0, refl, refl))))))))))))))))
+of_form (reply.Refused (refusal.KeyColumn name)) h = inr (inr (inr (inr (inr (inr (inr (inr (inr (inr (inr (inr (inr (inr (inr (inr (inl (with_name name, sym (name_alone (is_name name)) ∙ h, append_assoc (codes "E9 key column ") name newline)))))))))))))))))
+of_form (reply.Refused refusal.NoTransaction) h = inr (inr (inr (inr (inr (inr (inr (inr (inr (inr (inr (inr (inr (inr (inr (inr (inr (inl (with_number 0, refl, refl))))))))))))))))))
+of_form (reply.Refused refusal.InTransaction) h = inr (inr (inr (inr (inr (inr (inr (inr (inr (inr (inr (inr (inr (inr (inr (inr (inr (inr (inl (with_number 0, refl, refl)))))))))))))))))))
+of_form (reply.Refused refusal.MustBeAlone) h = inr (inr (inr (inr (inr (inr (inr (inr (inr (inr (inr (inr (inr (inr (inr (inr (inr (inr (inr (inl (with_number 0, refl, refl))))))))))))))))))))
+of_form (reply.Refused (refusal.NameTwice name)) h = inr (inr (inr (inr (inr (inr (inr (inr (inr (inr (inr (inr (inr (inr (inr (inr (inr (inr (inr (inr (inl (with_name name, sym (name_alone (is_name name)) ∙ h, append_assoc (codes "E13 name twice ") name newline)))))))))))))))))))))
+of_form (reply.Refused (refusal.MayFail name n)) h = inr (inr (inr (inr (inr (inr (inr (inr (inr (inr (inr (inr (inr (inr (inr (inr (inr (inr (inr (inr (inr (inl (with_both (name, n), sym (name_first (is_name name) (is_u32 n)) ∙ h, named_end (codes "E14 may fail ") name (codes " item ") n))))))))))))))))))))))
+of_form (reply.Refused (refusal.KeyNotInherited name)) h = inr (inr (inr (inr (inr (inr (inr (inr (inr (inr (inr (inr (inr (inr (inr (inr (inr (inr (inr (inr (inr (inr (inl (with_name name, sym (name_alone (is_name name)) ∙ h, append_assoc (codes "E15 key not inherited ") name newline)))))))))))))))))))))))
+of_form (reply.Refused (refusal.SourceUnknown name)) h = inr (inr (inr (inr (inr (inr (inr (inr (inr (inr (inr (inr (inr (inr (inr (inr (inr (inr (inr (inr (inr (inr (inr (inl (with_name name, sym (name_alone (is_name name)) ∙ h, append_assoc (codes "E16 source unknown ") name newline))))))))))))))))))))))))
+of_form (reply.Refused (refusal.TooManyRows name n)) h = inr (inr (inr (inr (inr (inr (inr (inr (inr (inr (inr (inr (inr (inr (inr (inr (inr (inr (inr (inr (inr (inr (inr (inr (inl (with_both (name, n), sym (name_first (is_name name) (is_u32 n)) ∙ h, named_end (codes "E17 too many rows ") name (codes " ") n)))))))))))))))))))))))))
+of_form (reply.Refused (refusal.UnitLimit k)) h = inr (inr (inr (inr (inr (inr (inr (inr (inr (inr (inr (inr (inr (inr (inr (inr (inr (inr (inr (inr (inr (inr (inr (inr (inr (inl (with_number k, h, refl))))))))))))))))))))))))))
+of_form (reply.Refused (refusal.IndexExists name)) h = inr (inr (inr (inr (inr (inr (inr (inr (inr (inr (inr (inr (inr (inr (inr (inr (inr (inr (inr (inr (inr (inr (inr (inr (inr (inr (inl (with_name name, sym (name_alone (is_name name)) ∙ h, append_assoc (codes "E19 index exists ") name newline)))))))))))))))))))))))))))
+of_form (reply.Rows rows) h = absurd cc
+of_form (reply.Ended cause) h = absurd cc

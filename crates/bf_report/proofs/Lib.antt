@@ -1,0 +1,15 @@
+pub mod Behind
+pub mod Causes
+pub mod Endings
+pub mod Entries
+pub mod Finds
+pub mod Forms
+pub mod Heads
+pub mod InTurn
+pub mod Integers
+pub mod Items
+pub mod Loops
+pub mod Named
+pub mod Names
+pub mod Numerals
+pub mod Quotes

@@ -1,0 +1,4 @@
+use Rattle.bf_report.proofs.pieces.items.Goals as goal
+
+pub returns : goal.returns
+returns c = ?
