@@ -3,7 +3,6 @@ pub mod Causes
 pub mod Endings
 pub mod Entries
 pub mod Finds
-pub mod Forms
 pub mod Heads
 pub mod InTurn
 pub mod Integers
@@ -12,4 +11,10 @@ pub mod Loops
 pub mod Named
 pub mod Names
 pub mod Numerals
+pub mod Onward
 pub mod Quotes
+pub mod Shapes
+pub mod Steps
+pub mod Unbroken
+pub mod Walks
+pub mod Whole

@@ -1,10 +1,11 @@
 -- READING: what is told where in the bytes of a report.
-use Rattle.std.specs.Prelude.{◌≡◌, ℕ, ◌+◌, List, [], ◌∷◌, ◌++◌, drop, flat_map, ⊤}
+use Rattle.std.specs.Prelude.{◌≡◌, ℕ, ◌+◌, List, [], ◌∷◌, ◌++◌, drop, flat_map, length, ⊤}
 use Rattle.std.specs.Global.{Vec}
 use Rattle.bf_tree.specs.declared.reply.Reply.{Reply}
 use Rattle.bf_tree.specs.declared.script.Script.{Script}
 use Rattle.bf_text.specs.Replies.{reply_text}
-use Rattle.bf_text.specs.Report.{commits_of, end_text, table_line}
+use Rattle.bf_text.specs.Report.{commits_of, end_text, session_text, table_line}
+use Rattle.bf_report.specs.Going.{starts_of}
 use Rattle.bf_report.specs.declared.reading.Reading.{Reading}
 use Rattle.bf_verdict.specs.Reports.{IsReport, Parts}
 
@@ -24,6 +25,13 @@ module _ (bytes : List ℕ) where
   SessionsStandAt s [] [] = ⊤
   SessionsStandAt s (places ∷ more) (replies ∷ transcripts) = RepliesStandAt s 1 places.items replies × SessionsStandAt (s + 1) more transcripts
   SessionsStandAt s places transcripts = ⊥
+
+-- where the replies of the sessions from s on begin, the first of them at a place
+abbrev pub AreStarts : ℕ → ℕ → List (Vec ℕ) → List (List Reply) → Type 0
+AreStarts s at [] [] = ⊤
+AreStarts s at (places ∷ more) (replies ∷ transcripts) =
+    (places.items ≡ starts_of s 1 at replies) × AreStarts (s + 1) (at + length (session_text s replies)) more transcripts
+AreStarts s at places transcripts = ⊥
 
 -- a report was read, which tells this
 pub record IsReadingOf (script : Script) (bytes : List ℕ) (parts : Parts) (reading : Reading) : Type 0 where

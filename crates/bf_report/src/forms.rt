@@ -112,7 +112,7 @@ fn key_line(text: &[u8]) -> Option<&[u8]>
 }
 
 /// What stands behind the words of a reply.
-fn tail(text: &[u8], end: Tail) -> Option<&[u8]>
+fn tail_line(text: &[u8], end: Tail) -> Option<&[u8]>
     ensures { Finds (tail_text end) (tail_fits end) text.now (option_copied result) }
 {
     match end {
@@ -131,7 +131,7 @@ fn tail(text: &[u8], end: Tail) -> Option<&[u8]>
 fn form<'a>(text: &'a [u8], words: &[u8], end: Tail) -> Option<&'a [u8]>
     ensures { Finds (form_text words.now end) (tail_fits end) text.now (option_copied result) }
 {
-    tail(behind(text, words)?, end)
+    tail_line(behind(text, words)?, end)
 }
 
 /// A reply without its place, which is one line and tells no cause.

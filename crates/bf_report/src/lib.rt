@@ -5,6 +5,7 @@
 #![tactic(auto)]
 
 pub mod error;
+mod forms;
 mod lines;
 mod pieces;
 pub mod reading;

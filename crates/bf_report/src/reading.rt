@@ -1,9 +1,17 @@
 //! Reading a report from its first line to its last.
 
-ghost use Rattle.std.specs.Prelude.{◌≡◌, ℕ, ◌<◌, ◌^◌, IfOk, length};
-ghost use Rattle.bf_text.specs.Report.{commits_of};
-ghost use Rattle.bf_report.specs.Reading.{IsReadingOf};
+ghost use Rattle.std.specs.Prelude.{◌≡◌, ℕ, ◌+◌, ◌-◌, ◌<◌, ◌≤◌, ◌^◌, ◌++◌, List, [], ◌∷◌, Err, IfOk, IsTrue, flat_map, length, map};
+ghost use Rattle.std.specs.List.{list_all};
+ghost use Rattle.bf_text.specs.Replies.{reply_text, row_line};
+ghost use Rattle.bf_text.specs.Report.{commits_of, entry_text, session_text, table_line, texts_from};
+ghost use Rattle.bf_tree.specs.declared.reply.Cell.{Cell};
+ghost use Rattle.bf_tree.specs.declared.reply.Reply.{Reply};
+ghost use Rattle.bf_tree.specs.declared.script.Script.{Script as Told};
+ghost use Rattle.bf_report.specs.Going.{At, GoesEnd, GoesEntries, GoesReplies, GoesRows, GoesTables, IfRead, Stands, all_places, follow, places_from, reply_fits, starts_of};
+ghost use Rattle.bf_report.specs.Lines.{row_has_room};
+ghost use Rattle.bf_report.specs.Reading.{AreStarts, IsReadingOf};
 ghost use Rattle.bf_verdict.specs.Reports.{IsNoReport, Parts};
+ghost use Rattle.bf_verdict.specs.Room.{entry_has_room};
 
 use crate::error::ReportError;
 use crate::lines::{end_line, entry_line, reply_line, row_line, table_line};
@@ -22,104 +30,168 @@ pub struct Reading {
     pub audit: u32,
 }
 
-/// What is left of a report's bytes, from the first byte of a line on.
-#[derive(Drop)]
-struct Reader<'a> {
-    length: usize,
-    left: &'a [u8],
+/// Where in a report of so many bytes this is the rest.
+fn place_of(length: usize, left: &[u8]) -> u32
+    requires within { length left.now ≤ length }
+    requires short { length < 2 ^ 32 }
+    ensures { result + length left.now ≡ length }
+{
+    (length - left.len()) as u32
 }
 
-impl<'a> Reader<'a> {
-    /// Where the line stands.
-    fn at(&self) -> u32 {
-        (self.length - self.left.len()) as u32
-    }
-
-    /// Goes on behind the line. Fails at it where it was not read.
-    fn go_on(&mut self, behind: Option<&'a [u8]>) -> Result<(), ReportError> {
-        match behind {
-            Some(left) => {
-                self.left = left;
-                Ok(())
-            }
-            None => Err(ReportError::NoReport(self.at())),
-        }
-    }
-
-    /// Reads the lines of a reply.
-    fn reply(&mut self, place: Place) -> Result<(), ReportError> {
-        let Some((rows, left)) = reply_line(self.left, place) else {
-            return Err(ReportError::NoReport(self.at()));
+/// The lines of so many rows: what stands behind them.
+fn rows(length: usize, text: &[u8], place: Place, count: u64) -> Result<&[u8], ReportError>
+    requires within { length text.now ≤ length }
+    requires short { length < 2 ^ 32 }
+    ensures told { IfOk result (λ left. (rows : List (List Cell)) × (length rows ≡ count)
+        × IsTrue (list_all row_has_room rows)
+        × (text.now ≡ flat_map (row_line place.session place.statement) rows ++ left.now)) }
+    ensures goes { (script : Told) (bytes : List ℕ) (places : List At) → length bytes ≡ length
+        → Stands script (GoesRows count (place.session, place.statement) places) bytes text.now
+        → IfRead result (λ left. Stands script (GoesReplies places) bytes left.now)
+        (IsNoReport script bytes) }
+{
+    let mut left = text;
+    for _row in 0..count {
+        let Some(behind) = row_line(left, place) else {
+            return Err(ReportError::NoReport(place_of(length, left)));
         };
-        self.left = left;
-        for _ in 0..rows {
-            self.go_on(row_line(self.left, place))?;
-        }
-        Ok(())
+        left = behind;
     }
+    Ok(left)
+}
 
-    /// Reads the replies of a session to so many statements, and answers where they begin.
-    fn session(
-        &mut self,
-        alloc: Global,
-        session: u64,
-        statements: usize,
-    ) -> Result<Vec<u32>, ReportError> {
-        let mut places = Vec::with_capacity(alloc, statements)?;
-        for index in 0..statements {
-            let at = self.at();
-            self.reply(Place {
-                session,
-                statement: index as u64 + 1,
-            })?;
-            places.push(at)?;
-        }
-        Ok(places)
+/// The lines of a reply: what stands behind them.
+fn reply(length: usize, text: &[u8], place: Place) -> Result<&[u8], ReportError>
+    requires within { length text.now ≤ length }
+    requires short { length < 2 ^ 32 }
+    ensures told { IfOk result (λ left. (r : Reply) × IsTrue (reply_fits r)
+        × (text.now ≡ reply_text place.session place.statement r ++ left.now)) }
+    ensures goes { (script : Told) (bytes : List ℕ) (places : List At) → length bytes ≡ length
+        → Stands script (GoesReplies ((place.session, place.statement) ∷ places)) bytes text.now
+        → IfRead result (λ left. Stands script (GoesReplies places) bytes left.now)
+        (IsNoReport script bytes) }
+{
+    match reply_line(text, place) {
+        Some((count, behind)) => rows(length, behind, place, count),
+        None => Err(ReportError::NoReport(place_of(length, text))),
     }
+}
 
-    /// Reads the replies of all sessions, and answers where they begin.
-    fn sessions(
-        &mut self,
-        alloc: Global,
-        sessions: &[Session],
-    ) -> Result<Vec<Vec<u32>>, ReportError> {
-        let mut replies = Vec::with_capacity(alloc, sessions.len())?;
-        for (index, session) in sessions.iter().enumerate() {
-            replies.push(self.session(alloc, index as u64 + 1, session.statements.len())?)?;
-        }
-        Ok(replies)
+/// The replies of a session to so many statements: where they begin in a report of so many bytes, and what stands behind
+/// them.
+fn session<'a>(
+    alloc: Global,
+    length: usize,
+    text: &'a [u8],
+    session: u64,
+    statements: usize,
+) -> Result<(Vec<u32>, &'a [u8]), ReportError>
+    requires within { length text.now ≤ length }
+    requires short { length < 2 ^ 32 }
+    ensures told { IfOk result (λ r. (replies : List Reply) × (length replies ≡ statements)
+        × IsTrue (list_all reply_fits replies)
+        × (text.now ≡ session_text session replies ++ r.1.now)
+        × (r.0.items ≡ starts_of session 1 (length - length text.now) replies)) }
+    ensures goes { (script : Told) (bytes : List ℕ) (places : List At) → length bytes ≡ length
+        → Stands script (GoesReplies (places_from session 1 statements ++ places)) bytes text.now
+        → IfRead result (λ r. Stands script (GoesReplies places) bytes r.1.now)
+        (IsNoReport script bytes) }
+{
+    let mut places = Vec::with_capacity(alloc, statements)?;
+    let mut left = text;
+    for index in 0..statements {
+        places.push(place_of(length, left))?;
+        let place = Place {
+            session,
+            statement: index as u64 + 1,
+        };
+        left = reply(length, left, place)?;
     }
+    Ok((places, left))
+}
 
-    /// Reads the lines of the transactions.
-    fn entries(&mut self, alloc: Global) -> Result<Vec<Entry>, ReportError> {
-        let mut entries = Vec::new(alloc);
-        while let Some((entry, left)) = entry_line(self.left, entries.len() as u64 + 1) {
-            entries.push(entry)?;
-            self.left = left;
-        }
-        Ok(entries)
+/// The replies of all sessions: where they begin in a report of so many bytes, and what stands behind them.
+fn sessions<'a>(
+    alloc: Global,
+    length: usize,
+    text: &'a [u8],
+    sessions: &[Session],
+) -> Result<(Vec<Vec<u32>>, &'a [u8]), ReportError>
+    requires within { length text.now ≤ length }
+    requires short { length < 2 ^ 32 }
+    ensures told { IfOk result (λ r. (transcripts : List (List Reply))
+        × (map (λ t. length t) transcripts ≡ map (λ s. length s.statements) sessions.now)
+        × IsTrue (list_all (λ t. list_all reply_fits t) transcripts)
+        × (text.now ≡ texts_from session_text 1 transcripts ++ r.1.now)
+        × AreStarts 1 (length - length text.now) r.0.items transcripts) }
+    ensures goes { (script : Told) (bytes : List ℕ) → length bytes ≡ length
+        → Stands script (GoesReplies (all_places 1 sessions.now)) bytes text.now
+        → IfRead result (λ r. Stands script (GoesEntries 1 0) bytes r.1.now)
+        (IsNoReport script bytes) }
+{
+    let mut replies = Vec::with_capacity(alloc, sessions.len())?;
+    let mut left = text;
+    for (index, entered) in sessions.iter().enumerate() {
+        let statements = entered.statements.len();
+        let (places, behind) = session(alloc, length, left, index as u64 + 1, statements)?;
+        replies.push(places)?;
+        left = behind;
     }
+    Ok((replies, left))
+}
 
-    /// Reads the lines of tables whose names rise.
-    fn audit(&mut self) {
-        let mut before: &[u8] = &[];
-        while let Some((name, _, left)) = table_line(self.left) {
-            if name <= before {
-                return;
-            }
-            before = name;
-            self.left = left;
-        }
+/// The lines of the transactions, and what stands behind them.
+fn entries(alloc: Global, text: &[u8]) -> Result<(Vec<Entry>, &[u8]), ReportError>
+    ensures told { IfOk result (λ r. IsTrue (list_all entry_has_room r.0.items)
+        × (text.now ≡ texts_from entry_text 1 r.0.items ++ r.1.now)) }
+    ensures goes { (script : Told) (bytes : List ℕ) → Stands script (GoesEntries 1 0) bytes text.now
+        → IfOk result
+        (λ r. Stands script (GoesTables [] (commits_of r.0.items)) bytes r.1.now) }
+    ensures memory { (at : ℕ) → result ≡ Err (ReportError.NoReport at) → ⊥ }
+{
+    let mut entries = Vec::new(alloc);
+    let mut left = text;
+    while let Some((entry, behind)) = entry_line(left, entries.len() as u64 + 1) {
+        entries.push(entry)?;
+        left = behind;
     }
+    Ok((entries, left))
+}
 
-    /// Reads the last line, which tells so many commits, and behind which nothing stands.
-    fn end(&mut self, commits: u64) -> Result<(), ReportError> {
-        self.go_on(end_line(self.left, commits))?;
-        if self.left.is_empty() {
-            Ok(())
-        } else {
-            Err(ReportError::NoReport(self.at()))
+/// What stands behind the lines of tables whose names rise.
+fn tables(text: &[u8]) -> &[u8]
+    ensures told { (tables : List (List ℕ × ℕ)) × IsTrue (follow [] tables)
+        × (text.now ≡ flat_map table_line tables ++ result.now) }
+    ensures goes { (script : Told) (bytes : List ℕ) (commits : ℕ)
+        → Stands script (GoesTables [] commits) bytes text.now
+        → Stands script (GoesEnd commits) bytes result.now }
+{
+    let mut before: &[u8] = &[];
+    let mut left = text;
+    while let Some((name, _, behind)) = table_line(left) {
+        if name <= before {
+            return left;
         }
+        before = name;
+        left = behind;
+    }
+    left
+}
+
+/// Reads the last line, which tells so many commits, and behind which nothing stands.
+fn end(length: usize, text: &[u8], commits: u64) -> Result<(), ReportError>
+    requires within { length text.now ≤ length }
+    requires short { length < 2 ^ 32 }
+    ensures told { IfOk result (λ _. GoesEnd commits text.now) }
+    ensures goes { (script : Told) (bytes : List ℕ) → length bytes ≡ length
+        → Stands script (GoesEnd commits) bytes text.now
+        → (at : ℕ) → result ≡ Err (ReportError.NoReport at) → IsNoReport script bytes at }
+{
+    match end_line(text, commits) {
+        Some([]) => Ok(()),
+        Some(behind) => Err(ReportError::NoReport(place_of(length, behind))),
+        None => Err(ReportError::NoReport(place_of(length, text))),
     }
 }
 
@@ -146,15 +218,11 @@ pub fn read_report(alloc: Global, script: &Script, bytes: &[u8]) -> Result<Readi
     ensures no_report { (at : ℕ) → result ≡ Err (ReportError.NoReport at)
         → IsNoReport script.now bytes.now at }
 {
-    let mut reader = Reader {
-        length: bytes.len(),
-        left: bytes,
-    };
-    let replies = reader.sessions(alloc, script.sessions.as_slice())?;
-    let entries = reader.entries(alloc)?;
-    let audit = reader.at();
-    reader.audit();
-    reader.end(commits_in(entries.as_slice()))?;
+    let length = bytes.len();
+    let (replies, left) = sessions(alloc, length, bytes, script.sessions.as_slice())?;
+    let (entries, left) = entries(alloc, left)?;
+    let audit = place_of(length, left);
+    end(length, tables(left), commits_in(entries.as_slice()))?;
     Ok(Reading {
         replies,
         entries,
