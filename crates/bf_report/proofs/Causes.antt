@@ -1,7 +1,7 @@
 -- Things that are one of several, by their first words; and the causes among them.
 use Rattle.std.proofs.Common.{◌≡◌, ℕ, Bool, true, false, ◌&&◌, ◌==◌, IsTrue, List, [], ◌∷◌, ◌++◌, get_or, drop, codes, Option, None, Some, refl, sym, ap, ◌∙◌, append_assoc, arith}
 use Rattle.std.specs.Fmt.{decimal}
-use Rattle.std.proofs.lemmas.Bool.{and_parts, eqb-false}
+use Rattle.std.proofs.lemmas.Bool.{and_parts}
 use Rattle.std.proofs.lemmas.List.{append_cancel_left}
 use Rattle.bf_tree.specs.declared.reply.Cause.{Cause}
 use Rattle.bf_tree.specs.declared.reply.Cause.TheVariants as cause
@@ -10,11 +10,7 @@ use Rattle.bf_tree.specs.declared.history.Outcome.TheVariants as outcome
 use Rattle.bf_text.specs.Numbers.{is_u64}
 use Rattle.bf_report.specs.Behind.{IsBehind}
 use Rattle.bf_report.specs.Lines.{Begins, EndsLine, Reads, cause_has_room, ended_cause, ended_outcome, number_line, outcome_has_room, two_fit, two_numbers}
-use Rattle.bf_report.proofs.InTurn.{read_begins, read_only, reads_none, reads_some, unread}
-
--- texts with another byte somewhere are not the same
-pub differ : {s t : List ℕ} (k : ℕ) → s ≡ t → (get_or s k 0 == get_or t k 0) ≡ false → ⊥
-differ {s} {t} k e h = eqb-false (get_or s k 0) (get_or t k 0) h (ap (λ (z : List ℕ). get_or z k 0) e)
+use Rattle.bf_report.proofs.InTurn.{differ, read_begins, read_only, reads_none, reads_some, unread}
 
 -- `only`: behind these words a thing stands that is made of another
 module _ {X Y : Type 0} (t : X → List ℕ) (f : X → Bool) (u : Y → List ℕ) (g : Y → Bool) (make : X → Y) (words text rest : List ℕ)

@@ -12,9 +12,8 @@ use Rattle.bf_text.specs.Report.{end_text, sweep_text}
 use Rattle.bf_verdict.specs.Room.{is_u8, is_u32, sweep_has_room}
 use Rattle.bf_report.specs.Behind.{IsBehind}
 use Rattle.bf_report.specs.Lines.{Begins, EndsLine, EndsNumber, Finds, Reads, ended_sweep, number_line, running_fits, running_text, worded}
-use Rattle.bf_report.proofs.Causes.{differ}
 use Rattle.bf_report.proofs.Finds.{found_as, said_found, unsaid_found}
-use Rattle.bf_report.proofs.InTurn.{read_begins, read_only, unread}
+use Rattle.bf_report.proofs.InTurn.{differ, read_begins, read_only, unread}
 
 abbrev ReadsWorded : List ℕ → List ℕ → Option (ℕ × List ℕ) → Type 0
 ReadsWorded words text r = Reads (worded words) is_u32 EndsNumber text r
@@ -33,6 +32,17 @@ position_part run rest = codes " position " ++ (number_line run.2 ++ rest)
 abbrev unit_part : Run → List ℕ → List ℕ
 unit_part run rest = codes " next unit " ++ (decimal run.1 ++ position_part run rest)
 
+in_parts : (a m b u c p rest : List ℕ) → ((a ++ m) ++ ((b ++ u) ++ (c ++ p))) ++ rest ≡ (a ++ m) ++ (b ++ (u ++ (c ++ (p ++ rest))))
+in_parts a m b u c p rest = simp append_assoc
+
+sweep_in_parts : (m a v b u c p n rest : List ℕ)
+    → ((((m ++ (a ++ v)) ++ (b ++ u)) ++ (c ++ p)) ++ n) ++ rest ≡ m ++ (((a ++ v) ++ ((b ++ u) ++ (c ++ (p ++ n)))) ++ rest)
+sweep_in_parts m a v b u c p n rest = simp append_assoc
+
+running_is : (m moved unit position : ℕ) (rest : List ℕ) → ended_sweep (sweep.Running m moved unit position) ++ rest ≡ decimal m ++ (running_text (moved, unit, position) ++ rest)
+running_is m moved unit position rest =
+    sweep_in_parts (decimal m) (codes " moved ") (decimal moved) (codes " next unit ") (decimal unit) (codes " position ") (decimal position) newline rest
+
 module _ (text : List ℕ) where
   abbrev pub FindsRunning : Option (List ℕ) → Type 0
   FindsRunning r = Finds running_text running_fits text r
@@ -41,7 +51,7 @@ module _ (text : List ℕ) where
   IsRunning run rest = IsTrue (running_fits run) × (text ≡ running_text run ++ rest)
 
   regrouped : (run : Run) (rest : List ℕ) → running_text run ++ rest ≡ worded (codes " moved ") run.0 ++ unit_part run rest
-  regrouped run rest = simp append_assoc
+  regrouped run rest = in_parts (codes " moved ") (decimal run.0) (codes " next unit ") (decimal run.1) (codes " position ") (number_line run.2) rest
 
   moved_of : (run : Run) (rest : List ℕ) → IsRunning run rest → Begins (worded (codes " moved ")) is_u32 EndsNumber text run.0 (unit_part run rest)
   moved_of run rest (fit, written) = record {
@@ -131,7 +141,7 @@ module _ (text : List ℕ) where
       fitting = (and_parts (is_u32 m) (is_u32 moved)
           (and_parts (is_u32 m && is_u32 moved) (is_u8 unit) (and_parts (is_u32 m && is_u32 moved && is_u8 unit) (is_u32 position) fit).0).0).0;
       behind_it = refl;
-      written = written ∙ simp append_assoc;
+      written = written ∙ running_is m moved unit position rest;
     }
 
     pub no_migration : Reads decimal is_u32 EndsNumber text None → FindsSweep None
@@ -184,7 +194,7 @@ module _ (text : List ℕ) where
             (sweep.Running m run.0 run.1 run.2,
             and_from (is_u32 m && is_u32 run.0 && is_u8 run.1) (is_u32 run.2)
             (and_from (is_u32 m && is_u32 run.0) (is_u8 run.1) (and_from (is_u32 m) (is_u32 run.0) first.fitting two.0) two.1) three.1,
-            first.written ∙ ap (λ (z : List ℕ). decimal m ++ z) written ∙ simp append_assoc)
+            first.written ∙ ap (λ (z : List ℕ). decimal m ++ z) written ∙ sym (running_is m run.0 run.1 run.2 rest))
 
 -- ---- the last line
 

@@ -27,6 +27,11 @@ first_part e rest = worded (codes " from ") e.first ++ last_part e rest
 abbrev session_part : Entry → List ℕ → List ℕ
 session_part e rest = worded (codes " session ") e.session ++ first_part e rest
 
+in_parts : (a k b s c f d l g o n rest : List ℕ)
+    → (((((((a ++ k) ++ (b ++ s)) ++ (c ++ f)) ++ (d ++ l)) ++ g) ++ o) ++ n) ++ rest
+    ≡ (a ++ k) ++ ((b ++ s) ++ ((c ++ f) ++ ((d ++ l) ++ (((g ++ o) ++ n) ++ rest))))
+in_parts a k b s c f d l g o n rest = simp append_assoc
+
 module _ (k : ℕ) (text : List ℕ) where
   abbrev BeginsEntry : Entry → List ℕ → Type 0
   BeginsEntry e rest = Begins (entry_text k) entry_has_room EndsLine text e rest
@@ -35,7 +40,9 @@ module _ (k : ℕ) (text : List ℕ) where
   ReadsEntry r = Reads (entry_text k) entry_has_room EndsLine text r
 
   regrouped : (e : Entry) (rest : List ℕ) → entry_text k e ++ rest ≡ numbered (codes "entry ") k ++ session_part e rest
-  regrouped e rest = simp append_assoc
+  regrouped e rest =
+      in_parts (codes "entry ") (decimal k) (codes " session ") (decimal e.session) (codes " from ") (decimal e.first) (codes " to ") (decimal e.last)
+      (codes " ") (outcome_text e.outcome) newline rest
 
   -- what has room
   session_room : (e : Entry) → IsTrue (entry_has_room e) → IsTrue (is_u32 e.session)

@@ -15,24 +15,24 @@ use Rattle.bf_text.specs.Replies.{cell_text, listed, newline, place_text, row_li
 use Rattle.bf_verdict.specs.Room.{cell_has_room}
 use Rattle.bf_report.specs.Behind.{IsBehind}
 use Rattle.bf_report.specs.Lines.{Begins, EndsLine, Finds, FindsHead, Head, RowsOf, OneLine, Passes, cause_has_room, closed, ended_cause, head_body, head_fits, is_one_line, item_has_room, items_have_room, number_line, plain_fits, plain_text, row_has_room}
-use Rattle.bf_report.proofs.Causes.{ReadsCause, ReadsNumber, differ}
+use Rattle.bf_report.proofs.Causes.{ReadsCause, ReadsNumber}
 use Rattle.bf_report.proofs.Finds.{found_as, found_pass, said_found}
-use Rattle.bf_report.proofs.InTurn.{read_begins, unread}
+use Rattle.bf_report.proofs.InTurn.{differ, read_begins, unread}
 
 -- no other line begins like the number of rows
-no_rows : (r : Reply) (more rest : List ℕ) → IsTrue (is_one_line r) → codes "rows " ++ rest ≡ plain_text r ++ more → ⊥
+pub no_rows : (r : Reply) (more rest : List ℕ) → IsTrue (is_one_line r) → codes "rows " ++ rest ≡ plain_text r ++ more → ⊥
 no_rows (reply.Rows rows) more rest h e = absurd cc
 no_rows reply.RolledBack more rest h e = differ 2 e refl
 no_rows (reply.Refused (refusal.NoTable name)) more rest h e = differ 0 e refl
 no_rows (reply.Ended cause.DiskFault) more rest h e = differ 0 e refl
 no_rows other more rest h e = differ 0 e refl
 
-one_line_of : (r : Reply) → IsTrue (head_fits (OneLine r)) → IsTrue (is_one_line r)
+pub one_line_of : (r : Reply) → IsTrue (head_fits (OneLine r)) → IsTrue (is_one_line r)
 one_line_of (reply.Rows rows) h = absurd cc
 one_line_of other h = refl
 
 -- a reply of one line tells a cause or is plain
-plain_or_cause : (r : Reply) → IsTrue (head_fits (OneLine r))
+pub plain_or_cause : (r : Reply) → IsTrue (head_fits (OneLine r))
     → IsTrue (plain_fits r) ⊎ ((c : Cause) × (r ≡ reply.Ended c) × IsTrue (cause_has_room c))
 plain_or_cause (reply.Rows rows) h = absurd cc
 plain_or_cause (reply.Ended c) h = inr (c, refl, h)

@@ -1,11 +1,15 @@
 -- Things that are read one behind the other.
-use Rattle.std.proofs.Common.{◌≡◌, ℕ, Bool, true, ◌&&◌, IsTrue, List, ◌++◌, Option, None, Some, refl, sym, ap, ap₂, subst, ◌∙◌, append_assoc}
+use Rattle.std.proofs.Common.{◌≡◌, ℕ, Bool, true, false, ◌&&◌, ◌==◌, IsTrue, List, ◌++◌, get_or, Option, None, Some, refl, sym, ap, ap₂, subst, ◌∙◌, append_assoc}
 use Rattle.std.specs.Option.{option_map}
-use Rattle.std.proofs.lemmas.Bool.{and_from, and_parts}
+use Rattle.std.proofs.lemmas.Bool.{and_from, and_parts, eqb-false}
 use Rattle.std.proofs.lemmas.List.{append_cancel_left}
 use Rattle.std.proofs.lemmas.Option.{none-some, same_Some, some_pair_parts}
 use Rattle.bf_report.specs.Behind.{IsBehind}
 use Rattle.bf_report.specs.Lines.{Begins, EndsLine, Passes, Reads}
+
+-- texts with another byte somewhere are not the same
+pub differ : {s t : List ℕ} (k : ℕ) → s ≡ t → (get_or s k 0 == get_or t k 0) ≡ false → ⊥
+differ {s} {t} k e h = eqb-false (get_or s k 0) (get_or t k 0) h (ap (λ (z : List ℕ). get_or z k 0) e)
 
 -- ---- one thing
 

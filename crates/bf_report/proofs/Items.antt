@@ -15,7 +15,7 @@ use Rattle.bf_text.specs.Replies.{cell_text, newline}
 use Rattle.bf_verdict.specs.Room.{is_i64}
 use Rattle.bf_report.specs.Behind.{IsBehind}
 use Rattle.bf_report.specs.Lines.{Begins, EndsCell, EndsInt, EndsLine, EndsText, IsEnd, Passes, closed, closed_further, ends, is_quote, is_text_within, item_has_room, items_have_room, quoted_text, starts}
-use Rattle.bf_report.proofs.InTurn.{pass_begins, pass_only, passes_none, passes_some, unpassed}
+use Rattle.bf_report.proofs.InTurn.{differ, pass_begins, pass_only, passes_none, passes_some, unpassed}
 use Rattle.bf_report.proofs.Integers.{PassesInt, first_digit}
 use Rattle.bf_report.proofs.Quotes.{PassesText}
 
@@ -115,9 +115,9 @@ module _ (or_none : Bool) (end : List ℕ) (is_end : IsEnd end) where
   -- an end is no comma
   no_comma : (e : List ℕ) → IsEnd e → (more t : List ℕ) → e ++ more ≡ 44 ∷ t → ⊥
   no_comma e (inl bracket) more t k =
-      let first : 41 ≡ 44 = ap (λ (z : List ℕ). get_or z 0 0) (ap (λ (z : List ℕ). z ++ more) (sym bracket) ∙ k) in absurd (omega arith)
+      differ 0 (ap (λ (z : List ℕ). z ++ more) (sym bracket) ∙ k) refl
   no_comma e (inr line) more t k =
-      let first : 10 ≡ 44 = ap (λ (z : List ℕ). get_or z 0 0) (ap (λ (z : List ℕ). z ++ more) (sym line) ∙ k) in absurd (omega arith)
+      differ 0 (ap (λ (z : List ℕ). z ++ more) (sym line) ∙ k) refl
 
   -- behind a value stands an end or a comma, and so it goes no further
   end_first : (e : List ℕ) → IsEnd e → (more : List ℕ) → (ends is_digit (e ++ more)) × (ends is_quote (e ++ more))

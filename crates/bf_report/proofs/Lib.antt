@@ -15,6 +15,7 @@ pub mod Onward
 pub mod Quotes
 pub mod Shapes
 pub mod Steps
+pub mod Turns
 pub mod Unbroken
 pub mod Walks
 pub mod Whole

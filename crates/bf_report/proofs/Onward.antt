@@ -12,8 +12,7 @@ use Rattle.bf_verdict.specs.Reports.{IsNoReport}
 use Rattle.bf_verdict.specs.Room.{entry_has_room, sweep_has_room}
 use Rattle.bf_report.specs.Going.{GoesEnd, GoesEntries, GoesNowhere, GoesTables, Line, Same, SharesLine, Stands, follow}
 use Rattle.bf_report.specs.Lines.{Begins, EndsLine, Finds, Reads, table_fits}
-use Rattle.bf_report.proofs.Causes.{differ}
-use Rattle.bf_report.proofs.InTurn.{read_begins, read_only, unread}
+use Rattle.bf_report.proofs.InTurn.{differ, read_begins, read_only, unread}
 use Rattle.bf_report.proofs.Steps.{some_end}
 use Rattle.bf_report.proofs.Unbroken.{end_is_line, entry_is_line, table_is_line}
 use Rattle.bf_report.proofs.Walks.{further, lines_same, only_so, shared_back, stopped_at}
@@ -25,6 +24,47 @@ no_entry_at before c k e more z (table ∷ tables, rest, fits, written, goes) sa
 
 no_table_at : (c : ℕ) (t : List ℕ × ℕ) (more z : List ℕ) → GoesEnd c z → z ≡ table_line t ++ more → ⊥
 no_table_at c t more z (last, room, end) same = differ 0 (sym end ∙ same) refl
+
+-- ---- tables behind a name
+
+abbrev ReadsTable : List ℕ → Option ((List ℕ × ℕ) × List ℕ) → Type 0
+ReadsTable text r = Reads table_line table_fits EndsLine text r
+
+same_table : (text rest : List ℕ) (t u : List ℕ × ℕ) → ReadsTable text (Some (t, rest)) → IsTrue (table_fits u) → table_line t ≡ table_line u → t ≡ u
+same_table text rest t u h room same =
+    let begins = read_begins h in
+    let other : Begins table_line table_fits EndsLine text u rest =
+        record { fitting = room; behind_it = tt; written = begins.written ∙ ap (λ (z : List ℕ). z ++ rest) same } in
+    (read_only h other).0
+
+-- tables behind a name: the first of them, and those behind its name
+pub followed : (before : List ℕ) (t : List ℕ × ℕ) (ts : List (List ℕ × ℕ)) → IsTrue (follow before (t ∷ ts))
+    → IsTrue (table_fits t) × IsTrue (is_lt (name_cmp before t.0)) × IsTrue (follow t.0 ts)
+followed before t ts h =
+    let both = and_parts (list_all table_fits (t ∷ ts)) (rises name_cmp (before ∷ t.0 ∷ map (λ table. table.0) ts)) h in
+    let fits = and_parts (table_fits t) (list_all table_fits ts) both.0 in
+    let order = and_parts (is_lt (name_cmp before t.0)) (rises name_cmp (t.0 ∷ map (λ table. table.0) ts)) both.1 in
+    (fits.0, order.0, and_from (list_all table_fits ts) (rises name_cmp (t.0 ∷ map (λ table. table.0) ts)) fits.1 order.1)
+
+pub follows : (before : List ℕ) (t : List ℕ × ℕ) (ts : List (List ℕ × ℕ)) → IsTrue (table_fits t) → IsTrue (is_lt (name_cmp before t.0))
+    → IsTrue (follow t.0 ts) → IsTrue (follow before (t ∷ ts))
+follows before t ts fit less h =
+    let both = and_parts (list_all table_fits ts) (rises name_cmp (t.0 ∷ map (λ table. table.0) ts)) h in
+    and_from (list_all table_fits (t ∷ ts)) (rises name_cmp (before ∷ t.0 ∷ map (λ table. table.0) ts))
+    (and_from (table_fits t) (list_all table_fits ts) fit both.0)
+    (and_from (is_lt (name_cmp before t.0)) (rises name_cmp (t.0 ∷ map (λ table. table.0) ts)) less both.1)
+
+-- no table is read, or one whose name does not come behind
+pub data NoTable (before text : List ℕ) : Type 0 where
+  Unread : ReadsTable text None → NoTable before text
+  Before : (t : List ℕ × ℕ) (rest : List ℕ) → ReadsTable text (Some (t, rest)) → is_lt (name_cmp before t.0) ≡ false → NoTable before text
+
+not_first : (before text : List ℕ) (t : List ℕ × ℕ) (rest : List ℕ) → NoTable before text → IsTrue (table_fits t)
+    → IsTrue (is_lt (name_cmp before t.0)) → text ≡ table_line t ++ rest → ⊥
+not_first before text t rest (Unread h) fit less written = unread h (record { fitting = fit; behind_it = tt; written = written })
+not_first before text t rest (Before u more h not_less) fit less written =
+    let same = (read_only h (record { fitting = fit; behind_it = tt; written = written })).0 in
+    both_ways (is_lt (name_cmp before u.0)) not_less (ap (λ (x : List ℕ × ℕ). is_lt (name_cmp before x.0)) same ∙ less)
 
 module _ (script : Script) (bytes : List ℕ) where
   -- ---- transactions
@@ -88,33 +128,6 @@ module _ (script : Script) (bytes : List ℕ) where
 
   -- ---- tables
 
-  abbrev ReadsTable : List ℕ → Option ((List ℕ × ℕ) × List ℕ) → Type 0
-  ReadsTable text r = Reads table_line table_fits EndsLine text r
-
-  same_table : (text rest : List ℕ) (t u : List ℕ × ℕ) → ReadsTable text (Some (t, rest)) → IsTrue (table_fits u) → table_line t ≡ table_line u → t ≡ u
-  same_table text rest t u h room same =
-      let begins = read_begins h in
-      let other : Begins table_line table_fits EndsLine text u rest =
-          record { fitting = room; behind_it = tt; written = begins.written ∙ ap (λ (z : List ℕ). z ++ rest) same } in
-      (read_only h other).0
-
-  -- tables behind a name: the first of them, and those behind its name
-  followed : (before : List ℕ) (t : List ℕ × ℕ) (ts : List (List ℕ × ℕ)) → IsTrue (follow before (t ∷ ts))
-      → IsTrue (table_fits t) × IsTrue (is_lt (name_cmp before t.0)) × IsTrue (follow t.0 ts)
-  followed before t ts h =
-      let both = and_parts (list_all table_fits (t ∷ ts)) (rises name_cmp (before ∷ t.0 ∷ map (λ table. table.0) ts)) h in
-      let fits = and_parts (table_fits t) (list_all table_fits ts) both.0 in
-      let order = and_parts (is_lt (name_cmp before t.0)) (rises name_cmp (t.0 ∷ map (λ table. table.0) ts)) both.1 in
-      (fits.0, order.0, and_from (list_all table_fits ts) (rises name_cmp (t.0 ∷ map (λ table. table.0) ts)) fits.1 order.1)
-
-  pub follows : (before : List ℕ) (t : List ℕ × ℕ) (ts : List (List ℕ × ℕ)) → IsTrue (table_fits t) → IsTrue (is_lt (name_cmp before t.0))
-      → IsTrue (follow t.0 ts) → IsTrue (follow before (t ∷ ts))
-  follows before t ts fit less h =
-      let both = and_parts (list_all table_fits ts) (rises name_cmp (t.0 ∷ map (λ table. table.0) ts)) h in
-      and_from (list_all table_fits (t ∷ ts)) (rises name_cmp (before ∷ t.0 ∷ map (λ table. table.0) ts))
-      (and_from (table_fits t) (list_all table_fits ts) fit both.0)
-      (and_from (is_lt (name_cmp before t.0)) (rises name_cmp (t.0 ∷ map (λ table. table.0) ts)) less both.1)
-
   open_table : (before : List ℕ) (c : ℕ) (text rest : List ℕ) (t : List ℕ × ℕ) → ReadsTable text (Some (t, rest)) → (other : List ℕ)
       → GoesTables before c (table_line t ++ other) → GoesTables t.0 c other
   open_table before c text rest t h other ([], last, fits, written, goes) =
@@ -139,18 +152,6 @@ module _ (script : Script) (bytes : List ℕ) where
       let begins = read_begins h in
       further script (GoesTables before c) bytes text stands (GoesTables t.0 c) (table_line t) rest (table_is_line t begins.fitting) begins.written
       (λ other next. close_table before c t begins.fitting less other next) (λ other share goes. open_table before c text rest t h other goes)
-
-  -- no table is read, or one whose name does not come behind
-  pub data NoTable (before text : List ℕ) : Type 0 where
-    Unread : ReadsTable text None → NoTable before text
-    Before : (t : List ℕ × ℕ) (rest : List ℕ) → ReadsTable text (Some (t, rest)) → is_lt (name_cmp before t.0) ≡ false → NoTable before text
-
-  not_first : (before text : List ℕ) (t : List ℕ × ℕ) (rest : List ℕ) → NoTable before text → IsTrue (table_fits t)
-      → IsTrue (is_lt (name_cmp before t.0)) → text ≡ table_line t ++ rest → ⊥
-  not_first before text t rest (Unread h) fit less written = unread h (record { fitting = fit; behind_it = tt; written = written })
-  not_first before text t rest (Before u more h not_less) fit less written =
-      let same = (read_only h (record { fitting = fit; behind_it = tt; written = written })).0 in
-      both_ways (is_lt (name_cmp before u.0)) not_less (ap (λ (x : List ℕ × ℕ). is_lt (name_cmp before x.0)) same ∙ less)
 
   past_tables : (before : List ℕ) (c : ℕ) (text : List ℕ) → NoTable before text → (other : List ℕ) → SharesLine text other → GoesTables before c other
       → GoesEnd c other

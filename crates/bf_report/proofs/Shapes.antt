@@ -135,10 +135,10 @@ key_end : (key : List Value) → (codes "E4 duplicate key (" ++ values_text key 
 key_end key = ap (λ (z : List ℕ). codes "E4 duplicate key (" ++ z) (append_assoc (values_text key) (codes ")") newline)
 
 -- what a form tells is a reply
-abbrev Makes : Form → Type 0
+abbrev pub Makes : Form → Type 0
 Makes form = (t : Told) → IsTrue (tail_fits form.1 t) → (r : Reply) × IsTrue (plain_fits r) × (plain_text r ≡ form_text form.0 form.1 t)
 
-all_make : AllByRecursion Makes forms
+pub all_make : AllByRecursion Makes forms
 all_make =
     (λ t h. (reply.Inserted t.number, h, refl),
     (λ t h. (reply.Updated t.number, h, refl),
@@ -170,14 +170,14 @@ all_make =
     tt)))))))))))))))))))))))))))
 
 -- a reply is of a form
-abbrev OneOf : (Form → Type 0) → List Form → Type 0
+abbrev pub OneOf : (Form → Type 0) → List Form → Type 0
 OneOf P [] = ⊥
 OneOf P (form ∷ fs) = P form ⊎ OneOf P fs
 
-abbrev Tells : Reply → Form → Type 0
+abbrev pub Tells : Reply → Form → Type 0
 Tells r form = (t : Told) × IsTrue (tail_fits form.1 t) × (plain_text r ≡ form_text form.0 form.1 t)
 
-of_form : (r : Reply) → IsTrue (plain_fits r) → OneOf (Tells r) forms
+pub of_form : (r : Reply) → IsTrue (plain_fits r) → OneOf (Tells r) forms
 of_form (reply.Inserted k) h = inl (with_number k, h, refl)
 of_form (reply.Updated k) h = inr (inl (with_number k, h, refl))
 of_form (reply.Deleted k) h = inr (inr (inl (with_number k, h, refl)))

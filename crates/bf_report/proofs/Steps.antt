@@ -22,9 +22,7 @@ use Rattle.bf_verdict.specs.Reports.{IsNoReport}
 use Rattle.bf_verdict.specs.Room.{entry_has_room, reply_has_room, sweep_has_room}
 use Rattle.bf_report.specs.Going.{At, GoesEnd, GoesEntries, GoesNowhere, GoesReplies, GoesRows, GoesTables, SharesLine, Same, Line, Stands, follow, reply_fits}
 use Rattle.bf_report.specs.Lines.{Begins, EndsLine, Finds, FindsHead, Head, OneLine, Reads, RowsOf, head_body, head_fits, head_text, number_behind, number_line, plain_text, row_has_room, rows_behind, table_fits}
-use Rattle.bf_report.proofs.Causes.{differ}
 use Rattle.bf_report.proofs.Heads.{no_rows, one_line_of}
-use Rattle.bf_report.proofs.InTurn.{read_begins, read_only, unread}
 use Rattle.bf_report.proofs.Numerals.{number_read}
 use Rattle.bf_report.proofs.Unbroken.{end_is_line, entry_is_line, head_is_line, row_is_line, table_is_line}
 use Rattle.bf_report.proofs.Walks.{IsLine, further, lines_same, only_so, shared, shared_back, stopped_at}
@@ -180,19 +178,19 @@ module _ (script : Script) (bytes : List ℕ) (s n : ℕ) (places : List At) whe
 -- ---- some text goes on so
 
 pub some_end : (c : ℕ) → (z : List ℕ) × GoesEnd c z
-some_end c = (end_text c sweep.Never, sweep.Never, refl, refl)
+some_end c = (end_text c sweep.Never, (sweep.Never, refl, refl))
 
 some_tables : (before : List ℕ) (c : ℕ) → (z : List ℕ) × GoesTables before c z
-some_tables before c = let last = some_end c in (last.0, [], last.0, refl, refl, last.1)
+some_tables before c = let last = some_end c in (last.0, ([], last.0, refl, refl, last.1))
 
 pub some_entries : (k c : ℕ) → (z : List ℕ) × GoesEntries k c z
-some_entries k c = let last = some_tables [] (c + 0) in (last.0, [], last.0, refl, refl, last.1)
+some_entries k c = let last = some_tables [] (c + 0) in (last.0, ([], last.0, refl, refl, last.1))
 
 pub some_replies : (places : List At) → (z : List ℕ) × GoesReplies places z
 some_replies [] = some_entries 1 0
 some_replies (place ∷ places) =
     let more = some_replies places in
-    (reply_text place.0 place.1 reply.Created ++ more.0, reply.Created, more.0, refl, refl, more.1)
+    (reply_text place.0 place.1 reply.Created ++ more.0, (reply.Created, more.0, refl, refl, more.1))
 
 some_rows_of : (count : ℕ) → (rows : List (List Cell)) × (length rows ≡ count) × IsTrue (list_all row_has_room rows)
 some_rows_of zero = ([], refl, refl)
@@ -202,7 +200,7 @@ some_rows : (count : ℕ) (place : At) (places : List At) → (z : List ℕ) × 
 some_rows count place places =
     let rows = some_rows_of count in
     let more = some_replies places in
-    (flat_map (row_line place.0 place.1) rows.0 ++ more.0, rows.0, more.0, rows.1, rows.2, refl, more.1)
+    (flat_map (row_line place.0 place.1) rows.0 ++ more.0, (rows.0, more.0, rows.1, rows.2, refl, more.1))
 
 -- ---- where a reply or a row does not stand
 

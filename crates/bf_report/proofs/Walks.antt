@@ -172,16 +172,16 @@ module _ (script : Script) (Goes : List ℕ → Type 0) (bytes left : List ℕ) 
   pub further : (Next : List ℕ → Type 0) (line rest : List ℕ) → IsLine line → left ≡ line ++ rest
       → ((other : List ℕ) → Next other → Goes (line ++ other)) → ((other : List ℕ) → SharesLine left (line ++ other) → Goes (line ++ other) → Next other)
       → Stands script Next bytes rest
-  further Next line rest l written close open = record {
+  further Next line rest l written closes opens = record {
     front = stands.front ++ line;
     written = stands.written ∙ ap (λ (z : List ℕ). stands.front ++ z) written ∙ sym (append_assoc stands.front line rest);
     lines = lines_with stands.front line l;
     enough = λ other next.
-        subst (λ (z : List ℕ). IsSomeReport script z) (sym (append_assoc stands.front line other)) (stands.enough (line ++ other) (close other next));
+        subst (λ (z : List ℕ). IsSomeReport script z) (sym (append_assoc stands.front line other)) (stands.enough (line ++ other) (closes other next));
     only = λ other share report.
         let both : SharesLine left (line ++ other) =
             subst (λ (z : List ℕ). SharesLine z (line ++ other)) (sym written) (share_line line rest other l) in
-        open other both
+        opens other both
         (stands.only (line ++ other) both (subst (λ (z : List ℕ). IsSomeReport script z) (append_assoc stands.front line other) report));
   }
 
@@ -189,10 +189,10 @@ module _ (script : Script) (Goes : List ℕ → Type 0) (bytes left : List ℕ) 
 
   pub only_so : (Next : List ℕ → Type 0) → ((other : List ℕ) → Next other → Goes other) → ((other : List ℕ) → SharesLine left other → Goes other → Next other)
       → Stands script Next bytes left
-  only_so Next close open = record {
+  only_so Next closes opens = record {
     front = stands.front;
     written = stands.written;
     lines = stands.lines;
-    enough = λ other next. stands.enough other (close other next);
-    only = λ other share report. open other share (stands.only other share report);
+    enough = λ other next. stands.enough other (closes other next);
+    only = λ other share report. opens other share (stands.only other share report);
   }

@@ -52,11 +52,13 @@ fn rows(length: usize, text: &[u8], place: Place, count: u64) -> Result<&[u8], R
         (IsNoReport script bytes) }
 {
     let mut left = text;
-    for _row in 0..count {
+    let mut due = count;
+    while due > 0 {
         let Some(behind) = row_line(left, place) else {
             return Err(ReportError::NoReport(place_of(length, left)));
         };
         left = behind;
+        due -= 1;
     }
     Ok(left)
 }
