@@ -141,6 +141,10 @@ module _ {X : Type 0} (t : X → List ℕ) (f : X → Bool) (E : X → List ℕ 
       })
       (λ y more b. read_only h (behind_words behind said y more b))
 
+  pub said_read : (behind : List ℕ) (r : Option (X × List ℕ)) → text ≡ words ++ behind → Reads t f E behind r → ReadsBehind r
+  said_read behind None said h = said_none behind said h
+  said_read behind (Some (x, rest)) said h = said_some {x = x} {rest = rest} behind said h
+
 -- ---- a thing before words
 
 module _ {X : Type 0} (t : X → List ℕ) (f : X → Bool) (E : X → List ℕ → Type 0) (words text : List ℕ)

@@ -21,9 +21,6 @@ use Rattle.bf_report.proofs.Quotes.{PassesText}
 
 -- ---- the first byte of a value
 
-heads_differ : (a b : ℕ) (s t : List ℕ) → (a == b) ≡ false → a ∷ s ≡ b ∷ t → ⊥
-heads_differ a b s t differ e = eqb-false a b differ (ap (λ (z : List ℕ). get_or z 0 0) e)
-
 -- an INT begins with a digit or a minus
 pub int_first : (z : ℤ) (b : ℕ) (more t : List ℕ) → IsTrue (is_i64 z) → ends is_digit more → signed_decimal z ++ more ≡ b ∷ t
     → is_digit b ≡ false → (b == 45) ≡ false → ⊥
@@ -40,34 +37,34 @@ module _ (or_none : Bool) where
 
   -- ---- a text
 
-  text_only : (t : List ℕ) (c : Cell) (rest : List ℕ) → BeginsItem (39 ∷ t) c rest
-      → (x : List ℕ) × Begins quoted_text (is_text_within 255) EndsText t x rest
-  text_only t (cells.Value (Text bytes)) rest b =
-      (bytes, record { fitting = b.fitting; behind_it = b.behind_it; written = ap (drop 1) b.written })
-  text_only t (cells.Value (Int z)) rest b = absurd (int_first z 39 rest t b.fitting b.behind_it (sym b.written) refl refl)
-  text_only t cells.Null rest b = absurd (heads_differ 39 78 t (85 ∷ 76 ∷ 76 ∷ rest) refl b.written)
+  text_only : (text rest : List ℕ) → text ≡ 39 ∷ rest → (c : Cell) (more : List ℕ) → BeginsItem text c more
+      → (x : List ℕ) × Begins quoted_text (is_text_within 255) EndsText rest x more
+  text_only text rest said (cells.Value (Text bytes)) more b =
+      (bytes, record { fitting = b.fitting; behind_it = b.behind_it; written = ap (drop 1) (sym said ∙ b.written) })
+  text_only text rest said (cells.Value (Int z)) more b =
+      absurd (int_first z 39 more rest b.fitting b.behind_it (sym b.written ∙ said) refl refl)
+  text_only text rest said cells.Null more b = absurd (differ 0 (sym said ∙ b.written) refl)
 
-  pub item_text : (t : List ℕ) (r : Option (List ℕ)) → PassesText 255 t r → PassesItem (39 ∷ t) r
-  item_text t None h =
-      passes_none cell_text (item_has_room or_none) EndsCell (39 ∷ t) (λ c rest b. unpassed h (text_only t c rest b).1)
-  item_text t (Some rest) h =
+  pub item_text : (text rest : List ℕ) → text ≡ 39 ∷ rest → (r : Option (List ℕ)) → PassesText 255 rest r → PassesItem text r
+  item_text text rest said None h =
+      passes_none cell_text (item_has_room or_none) EndsCell text (λ c more b. unpassed h (text_only text rest said c more b).1)
+  item_text text rest said (Some behind) h =
       let found = pass_begins h in
       let begins = found.1 in
-      passes_some cell_text (item_has_room or_none) EndsCell (39 ∷ t) (cells.Value (Text found.0)) rest
-      (record { fitting = begins.fitting; behind_it = begins.behind_it; written = ap (λ (z : List ℕ). 39 ∷ z) begins.written })
-      (λ c more b. pass_only h (text_only t c more b).1)
+      passes_some cell_text (item_has_room or_none) EndsCell text (cells.Value (Text found.0)) behind
+      (record { fitting = begins.fitting; behind_it = begins.behind_it; written = said ∙ ap (λ (z : List ℕ). 39 ∷ z) begins.written })
+      (λ c more b. pass_only h (text_only text rest said c more b).1)
 
   -- ---- an INT
 
-  int_only : (text : List ℕ) → starts is_quote text ≡ false → (or_none ≡ false) ⊎ (starts (λ b. b == 78) text ≡ false)
+  int_only : (text : List ℕ) → IsBehind (39 ∷ []) text None → (or_none ≡ false) ⊎ IsBehind (codes "NULL") text None
       → (c : Cell) (rest : List ℕ) → BeginsItem text c rest → (z : ℤ) × Begins signed_decimal is_i64 EndsInt text z rest
   int_only text quote none (cells.Value (Int z)) rest b = (z, record { fitting = b.fitting; behind_it = b.behind_it; written = b.written })
-  int_only text quote none (cells.Value (Text bytes)) rest b = absurd (both_ways (starts is_quote text) quote (ap (starts is_quote) b.written))
+  int_only text quote none (cells.Value (Text bytes)) rest b = absurd (quote (quoted_text bytes ++ rest) b.written)
   int_only text quote (inl never) cells.Null rest b = absurd (both_ways or_none never b.fitting)
-  int_only text quote (inr none) cells.Null rest b =
-      absurd (both_ways (starts (λ b. b == 78) text) none (ap (starts (λ b. b == 78)) b.written))
+  int_only text quote (inr none) cells.Null rest b = absurd (none rest b.written)
 
-  pub item_int : (text : List ℕ) → starts is_quote text ≡ false → (or_none ≡ false) ⊎ (starts (λ b. b == 78) text ≡ false)
+  pub item_int : (text : List ℕ) → IsBehind (39 ∷ []) text None → (or_none ≡ false) ⊎ IsBehind (codes "NULL") text None
       → (r : Option (List ℕ)) → PassesInt text r → PassesItem text r
   item_int text quote none None h =
       passes_none cell_text (item_has_room or_none) EndsCell text (λ c rest b. unpassed h (int_only text quote none c rest b).1)
@@ -78,19 +75,18 @@ module _ (or_none : Bool) where
       (record { fitting = begins.fitting; behind_it = begins.behind_it; written = begins.written })
       (λ c more b. pass_only h (int_only text quote none c more b).1)
 
--- ---- NULL
+  -- ---- NULL
 
-null_only : (t : List ℕ) (c : Cell) (rest : List ℕ) → BeginsItem true (78 ∷ t) c rest → 78 ∷ t ≡ codes "NULL" ++ rest
-null_only t (cells.Value (Text bytes)) rest b = absurd (heads_differ 78 39 t (quoted_text bytes ++ rest) refl b.written)
-null_only t (cells.Value (Int z)) rest b = absurd (int_first z 78 rest t b.fitting b.behind_it (sym b.written) refl refl)
-null_only t cells.Null rest b = b.written
+  null_only : (text rest : List ℕ) → text ≡ codes "NULL" ++ rest → (c : Cell) (more : List ℕ) → BeginsItem text c more → rest ≡ more
+  null_only text rest said (cells.Value (Text bytes)) more b = absurd (differ 0 (sym said ∙ b.written) refl)
+  null_only text rest said (cells.Value (Int z)) more b =
+      absurd (int_first z 78 more (85 ∷ 76 ∷ 76 ∷ rest) b.fitting b.behind_it (sym b.written ∙ said) refl refl)
+  null_only text rest said cells.Null more b = append_cancel_left (codes "NULL") rest more (sym said ∙ b.written)
 
-pub item_null : (t : List ℕ) (r : Option (List ℕ)) → IsBehind (codes "NULL") (78 ∷ t) r → PassesItem true (78 ∷ t) r
-item_null t None h =
-    passes_none cell_text (item_has_room true) EndsCell (78 ∷ t) (λ c rest b. h rest (null_only t c rest b))
-item_null t (Some rest) h =
-    passes_some cell_text (item_has_room true) EndsCell (78 ∷ t) cells.Null rest (record { fitting = refl; behind_it = tt; written = h })
-    (λ c more b. append_cancel_left (codes "NULL") rest more (sym h ∙ null_only t c more b))
+  pub item_null : (text rest : List ℕ) → or_none ≡ true → text ≡ codes "NULL" ++ rest → PassesItem text (Some rest)
+  item_null text rest may said =
+      passes_some cell_text (item_has_room or_none) EndsCell text cells.Null rest (record { fitting = may; behind_it = tt; written = said })
+      (λ c more b. null_only text rest said c more b)
 
 -- ---- further values
 
@@ -230,13 +226,13 @@ module _ (or_none : Bool) (end : List ℕ) (is_end : IsEnd end) where
   -- a value begins with neither
   no_bracket : (c : Cell) (more t : List ℕ) → IsTrue (item_has_room or_none c) → EndsCell c more → cell_text c ++ more ≡ 41 ∷ t → ⊥
   no_bracket (cells.Value (Int z)) more t h ended k = int_first z 41 more t h ended k refl refl
-  no_bracket (cells.Value (Text bytes)) more t h ended k = heads_differ 39 41 (quoted_text bytes ++ more) t refl k
-  no_bracket cells.Null more t h ended k = heads_differ 78 41 (85 ∷ 76 ∷ 76 ∷ more) t refl k
+  no_bracket (cells.Value (Text bytes)) more t h ended k = differ 0 k refl
+  no_bracket cells.Null more t h ended k = differ 0 k refl
 
   no_line : (c : Cell) (more t : List ℕ) → IsTrue (item_has_room or_none c) → EndsCell c more → cell_text c ++ more ≡ 10 ∷ t → ⊥
   no_line (cells.Value (Int z)) more t h ended k = int_first z 10 more t h ended k refl refl
-  no_line (cells.Value (Text bytes)) more t h ended k = heads_differ 39 10 (quoted_text bytes ++ more) t refl k
-  no_line cells.Null more t h ended k = heads_differ 78 10 (85 ∷ 76 ∷ 76 ∷ more) t refl k
+  no_line (cells.Value (Text bytes)) more t h ended k = differ 0 k refl
+  no_line cells.Null more t h ended k = differ 0 k refl
 
   cell_no_end : (e : List ℕ) → IsEnd e → (c : Cell) (more t : List ℕ) → IsTrue (item_has_room or_none c) → EndsCell c more
       → cell_text c ++ more ≡ e ++ t → ⊥

@@ -13,8 +13,10 @@ pub mod Names
 pub mod Numerals
 pub mod Onward
 pub mod Quotes
+pub mod Rising
 pub mod Shapes
 pub mod Steps
+pub mod Tables
 pub mod Turns
 pub mod Unbroken
 pub mod Walks

@@ -1,10 +1,12 @@
 -- Texts between quotes that are read byte by byte.
-use Rattle.std.proofs.Common.{◌≡◌, ◌⊎◌, ℕ, suc, ◌+◌, ◌≤◌, Bool, true, false, cond, ◌&&◌, ◌==◌, IsTrue, List, [], ◌∷◌, ◌++◌, length, drop, get_or, flat_map, codes, Option, None, Some, inl, inr, refl, sym, ap, subst, ◌∙◌, append_assoc, arith}
+use Rattle.std.proofs.Common.{◌≡◌, ◌≢◌, ◌⊎◌, ℕ, suc, ◌+◌, ◌-◌, ◌≤◌, Bool, true, false, cond, ◌&&◌, ◌==◌, IsTrue, List, [], ◌∷◌, ◌++◌, length, drop, get_or, flat_map, codes, Option, None, Some, inl, inr, refl, sym, ap, subst, ◌∙◌, append_assoc, arith}
 use Rattle.std.specs.Prelude.{nat_le}
 use Rattle.std.specs.List.{list_all}
 use Rattle.std.proofs.lemmas.Bool.{and_from, and_parts, both_ways, eqb-true, eqb-false, le-leb, leb-true}
+use Rattle.std.proofs.lemmas.Bool.Decides.{nat_tests}
 use Rattle.bf_base.specs.Texts.{is_text_byte}
 use Rattle.bf_text.specs.Replies.{quoted}
+use Rattle.bf_report.specs.Behind.{IsBehind}
 use Rattle.bf_report.specs.Lines.{Begins, EndsText, Passes, ends, is_quote, is_text_within, quoted_text, starts}
 use Rattle.bf_report.proofs.InTurn.{pass_begins, pass_only, passes_none, passes_some, unpassed}
 
@@ -141,3 +143,45 @@ pub no_byte : (room b : ℕ) (t : List ℕ) → (b == 39) ≡ false → (is_text
 no_byte room b t other h =
     passes_none quoted_text (is_text_within room) EndsText (b ∷ t)
     (λ x rest k. neither room b t rest other h (start_of room (b ∷ t) x rest k))
+
+-- ---- a text as its first byte and the rest
+
+unquoted_by : (c : ℕ) (t : List ℕ) (test : Bool) → (c == 39) ≡ test → IsBehind (39 ∷ []) (c ∷ t) None → starts is_quote (c ∷ t) ≡ false
+unquoted_by c t true e none = absurd (none t (ap (λ (z : ℕ). z ∷ t) (eqb-true c 39 e)))
+unquoted_by c t false e none = e
+
+unquoted : (rest : List ℕ) → IsBehind (39 ∷ []) rest None → starts is_quote rest ≡ false
+unquoted [] none = refl
+unquoted (c ∷ t) none = unquoted_by c t (c == 39) refl none
+
+other_byte : (b : ℕ) → b ≢ 39 → (b == 39) ≡ false
+other_byte b h = grind (arith, nat_tests)
+
+module _ (room : ℕ) (text : List ℕ) (b : ℕ) (rest : List ℕ) (cut : text ≡ b ∷ rest) where
+  as_text : (r : Option (List ℕ)) → PassesText room (b ∷ rest) r → PassesText room text r
+  as_text r h = subst (λ (z : List ℕ). PassesText room z r) (sym cut) h
+
+  as_quote : (r : Option (List ℕ)) → b ≡ 39 → PassesText room (39 ∷ rest) r → PassesText room text r
+  as_quote r is h = as_text r (subst (λ (z : ℕ). PassesText room (z ∷ rest) r) (sym is) h)
+
+  pub ends_here : b ≡ 39 → IsBehind (39 ∷ []) rest None → PassesText room text (Some rest)
+  ends_here is none = as_quote (Some rest) is (last_quote room rest (unquoted rest none))
+
+  pub no_room_twice : (more : List ℕ) → b ≡ 39 → rest ≡ 39 ∷ more → room ≡ 0 → PassesText room text None
+  no_room_twice more is said full =
+      as_quote None is
+      (subst (λ (z : List ℕ). PassesText room (39 ∷ z) None) (sym said)
+      (subst (λ (n : ℕ). PassesText n (39 ∷ 39 ∷ more) None) (sym full) (no_room_quotes more)))
+
+  pub quote_twice : (more : List ℕ) (r : Option (List ℕ)) → b ≡ 39 → rest ≡ 39 ∷ more → room ≢ 0 → PassesText (room - 1) more r → PassesText room text r
+  quote_twice more r is said some h =
+      as_quote r is (subst (λ (z : List ℕ). PassesText room (39 ∷ z) r) (sym said) (quotes room (room - 1) (omega arith) more r h))
+
+  pub no_room_left : b ≢ 39 → room ≡ 0 → PassesText room text None
+  no_room_left other full = as_text None (no_byte room b rest (other_byte b other) (inr full))
+
+  pub unprintable : b ≢ 39 → is_text_byte b ≡ false → PassesText room text None
+  unprintable other none = as_text None (no_byte room b rest (other_byte b other) (inl none))
+
+  pub printed : (r : Option (List ℕ)) → b ≢ 39 → room ≢ 0 → is_text_byte b ≡ true → PassesText (room - 1) rest r → PassesText room text r
+  printed r other some printable h = as_text r (byte room (room - 1) (omega arith) rest b (other_byte b other) printable r h)

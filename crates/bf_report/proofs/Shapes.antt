@@ -1,5 +1,5 @@
 -- The replies that are one line and tell no cause, by their forms.
-use Rattle.std.proofs.Common.{◌≡◌, ◌⊎◌, ℕ, suc, ◌+◌, ◌<◌, ◌≤◌, Bool, true, false, ◌&&◌, IsTrue, List, [], ◌∷◌, ◌++◌, length, get_or, drop, codes, Option, None, Some, refl, sym, ap, subst, ◌∙◌, append_assoc, inl, inr, arith}
+use Rattle.std.proofs.Common.{◌≡◌, ◌⊎◌, ℕ, suc, zero, ◌+◌, ◌<◌, ◌≤◌, Bool, true, false, ◌&&◌, IsTrue, List, [], ◌∷◌, ◌++◌, length, get_or, drop, codes, Option, None, Some, refl, sym, ap, subst, ◌∙◌, append_assoc, inl, inr, arith}
 use Rattle.std.specs.Prelude.{⊤}
 use Rattle.std.specs.List.{AllByRecursion, list_all}
 use Rattle.std.specs.Option.{option_map}
@@ -17,11 +17,12 @@ use Rattle.bf_text.specs.Replies.{newline, values_text}
 use Rattle.bf_text.specs.Told.{is_named}
 use Rattle.bf_verdict.specs.Room.{is_u8, is_u32, reply_has_room}
 use Rattle.bf_report.specs.Behind.{IsBehind}
-use Rattle.bf_report.specs.Lines.{EndsLine, Finds, Reads, is_plain, key_fits, key_line, name_line, named_line, number_line, plain_fits, plain_text, table_fits}
+use Rattle.bf_report.specs.Lines.{Finds, is_at_most, is_plain, key_fits, key_line, name_line, named_line, number_line, plain_fits, plain_text, table_fits}
 use Rattle.bf_report.specs.Forms.{Told, form_text, tail_fits, tail_text}
 use Rattle.bf_report.specs.declared.forms.Tail.{Tail}
 use Rattle.bf_report.specs.declared.forms.Tail.TheVariants as tail
-use Rattle.bf_report.proofs.Finds.{found_as, found_read}
+use Rattle.bf_report.proofs.Finds.{found_as}
+use Rattle.bf_report.proofs.Named.{byte_bits, long_bits, short_bits}
 
 -- ---- tails
 
@@ -44,39 +45,36 @@ pub no_tail : (text : List ℕ) (r : Option (List ℕ)) → IsBehind newline tex
 no_tail text None h = λ told rest fit written. h rest written
 no_tail text (Some rest) h = (with_number 0, refl, h)
 
-pub byte_tail : (text : List ℕ) (r : Option (ℕ × List ℕ)) → Reads number_line is_u8 EndsLine text r → FindsTail tail.Byte text (option_map (λ p. p.1) r)
-byte_tail text r h =
-    found_as number_line is_u8 (tail_text tail.Byte) (tail_fits tail.Byte) with_number (λ told. told.number) (λ n k. k) (λ n k. refl)
-    (λ told k. k) (λ told k. refl) text (option_map (λ p. p.1) r) (found_read number_line is_u8 text r h)
+number_tail : (end : Tail) (fits : ℕ → Bool) (most : ℕ) → ((n : ℕ) → fits n ≡ is_at_most most n) → ((t : Told) → tail_text end t ≡ number_line t.number)
+    → ((t : Told) → tail_fits end t ≡ fits t.number) → (text : List ℕ) (r : Option (List ℕ)) → Finds number_line (is_at_most most) text r → FindsTail end text r
+number_tail end fits most same texts fit text r h =
+    found_as number_line (is_at_most most) (tail_text end) (tail_fits end) with_number (λ t. t.number)
+    (λ n k. fit (with_number n) ∙ same n ∙ k) (λ n k. sym (texts (with_number n)))
+    (λ t k. sym (same t.number) ∙ sym (fit t) ∙ k) (λ t k. texts t) text r h
 
-pub short_tail : (text : List ℕ) (r : Option (ℕ × List ℕ)) → Reads number_line is_u32 EndsLine text r → FindsTail tail.Short text (option_map (λ p. p.1) r)
-short_tail text r h =
-    found_as number_line is_u32 (tail_text tail.Short) (tail_fits tail.Short) with_number (λ told. told.number) (λ n k. k) (λ n k. refl)
-    (λ told k. k) (λ told k. refl) text (option_map (λ p. p.1) r) (found_read number_line is_u32 text r h)
+pub byte_tail : (text : List ℕ) (r : Option (List ℕ)) → Finds number_line (is_at_most 255) text r → FindsTail tail.Byte text r
+byte_tail text r h = number_tail tail.Byte is_u8 255 byte_bits (λ t. refl) (λ t. refl) text r h
 
-pub long_tail : (text : List ℕ) (r : Option (ℕ × List ℕ)) → Reads number_line is_u64 EndsLine text r → FindsTail tail.Long text (option_map (λ p. p.1) r)
-long_tail text r h =
-    found_as number_line is_u64 (tail_text tail.Long) (tail_fits tail.Long) with_number (λ told. told.number) (λ n k. k) (λ n k. refl)
-    (λ told k. k) (λ told k. refl) text (option_map (λ p. p.1) r) (found_read number_line is_u64 text r h)
+pub short_tail : (text : List ℕ) (r : Option (List ℕ)) → Finds number_line (is_at_most 4294967295) text r → FindsTail tail.Short text r
+short_tail text r h = number_tail tail.Short is_u32 4294967295 short_bits (λ t. refl) (λ t. refl) text r h
+
+pub long_tail : (text : List ℕ) (r : Option (List ℕ)) → Finds number_line (is_at_most 18446744073709551615) text r → FindsTail tail.Long text r
+long_tail text r h = number_tail tail.Long is_u64 18446744073709551615 long_bits (λ t. refl) (λ t. refl) text r h
 
 pub name_tail : (text : List ℕ) (r : Option (List ℕ)) → Finds name_line is_name text r → FindsTail tail.Name text r
 name_tail text r h =
     found_as name_line is_name (tail_text tail.Name) (tail_fits tail.Name) with_name (λ told. told.name) (λ n k. k) (λ n k. refl)
     (λ told k. k) (λ told k. refl) text r h
 
-pub item_tail : (text : List ℕ) (r : Option ((List ℕ × ℕ) × List ℕ)) → Reads (named_line (codes " item ")) table_fits EndsLine text r
-    → FindsTail tail.NameAndItem text (option_map (λ p. p.1) r)
+pub item_tail : (text : List ℕ) (r : Option (List ℕ)) → Finds (named_line (codes " item ")) table_fits text r → FindsTail tail.NameAndItem text r
 item_tail text r h =
     found_as (named_line (codes " item ")) table_fits (tail_text tail.NameAndItem) (tail_fits tail.NameAndItem) with_both
-    (λ told. (told.name, told.number)) (λ n k. k) (λ n k. refl) (λ told k. k) (λ told k. refl) text (option_map (λ p. p.1) r)
-    (found_read (named_line (codes " item ")) table_fits text r h)
+    (λ told. (told.name, told.number)) (λ n k. k) (λ n k. refl) (λ told k. k) (λ told k. refl) text r h
 
-pub rows_tail : (text : List ℕ) (r : Option ((List ℕ × ℕ) × List ℕ)) → Reads (named_line (codes " ")) table_fits EndsLine text r
-    → FindsTail tail.NameAndRows text (option_map (λ p. p.1) r)
+pub rows_tail : (text : List ℕ) (r : Option (List ℕ)) → Finds (named_line (codes " ")) table_fits text r → FindsTail tail.NameAndRows text r
 rows_tail text r h =
     found_as (named_line (codes " ")) table_fits (tail_text tail.NameAndRows) (tail_fits tail.NameAndRows) with_both
-    (λ told. (told.name, told.number)) (λ n k. k) (λ n k. refl) (λ told k. k) (λ told k. refl) text (option_map (λ p. p.1) r)
-    (found_read (named_line (codes " ")) table_fits text r h)
+    (λ told. (told.name, told.number)) (λ n k. k) (λ n k. refl) (λ told k. k) (λ told k. refl) text r h
 
 pub key_tail : (text : List ℕ) (r : Option (List ℕ)) → Finds key_line key_fits text r → FindsTail tail.Key text r
 key_tail text r h =
@@ -207,3 +205,46 @@ of_form (reply.Refused (refusal.UnitLimit k)) h = inr (inr (inr (inr (inr (inr (
 of_form (reply.Refused (refusal.IndexExists name)) h = inr (inr (inr (inr (inr (inr (inr (inr (inr (inr (inr (inr (inr (inr (inr (inr (inr (inr (inr (inr (inr (inr (inr (inr (inr (inr (inl (with_name name, sym (name_alone (is_name name)) ∙ h, append_assoc (codes "E19 index exists ") name newline)))))))))))))))))))))))))))
 of_form (reply.Rows rows) h = absurd cc
 of_form (reply.Ended cause) h = absurd cc
+
+-- ---- a loop over the forms
+
+abbrev Begun : List ℕ → Form → Type 0
+Begun text form = (t : Told) × (rest : List ℕ) × IsTrue (tail_fits form.1 t) × (text ≡ form_text form.0 form.1 t ++ rest)
+
+-- the text begins with one of some forms
+abbrev pub BeginsOne : List ℕ → List Form → Type 0
+BeginsOne text fs = OneOf (Begun text) fs
+
+begun_by : (text : List ℕ) (r : Reply) (rest : List ℕ) → text ≡ plain_text r ++ rest → (fs : List Form) → OneOf (Tells r) fs → BeginsOne text fs
+begun_by text r rest e [] h = h
+begun_by text r rest e (form ∷ fs) (inl (t, fit, written)) = inl (t, rest, fit, e ∙ ap (λ (z : List ℕ). z ++ rest) written)
+begun_by text r rest e (form ∷ fs) (inr h) = inr (begun_by text r rest e fs h)
+
+pub no_form : (text : List ℕ) → (BeginsOne text forms → ⊥) → Finds plain_text plain_fits text None
+no_form text none = λ r rest fit e. none (begun_by text r rest e forms (of_form r fit))
+
+behind_first : (text words : List ℕ) (end : Tail) (fs : List Form) → Finds (form_text words end) (tail_fits end) text None
+    → BeginsOne text ((words, end) ∷ fs) → BeginsOne text fs
+behind_first text words end fs none (inl (t, rest, fit, written)) = absurd (none t rest fit written)
+behind_first text words end fs none (inr h) = h
+
+-- the text does not begin with the form at a place
+pub one_further : (text : List ℕ) (i : ℕ) (words : List ℕ) (end : Tail) → i < length forms → (words, end) ≡ get_or forms i (words, end)
+    → Finds (form_text words end) (tail_fits end) text None → BeginsOne text (drop i forms) → BeginsOne text (drop (i + 1) forms)
+one_further text i words end below at none h =
+    let split : drop i forms ≡ (words, end) ∷ drop (i + 1) forms =
+        drop_more forms i (words, end) below ∙ ap (λ (z : Form). z ∷ drop (i + 1) forms) (sym at) in
+    behind_first text words end (drop (i + 1) forms) none (subst (λ (z : List Form). BeginsOne text z) split h)
+
+makes_at : (fs : List Form) (i : ℕ) (form : Form) → AllByRecursion Makes fs → i < length fs → Makes (get_or fs i form)
+makes_at [] i form h below = absurd (omega arith)
+makes_at (f ∷ fs) zero form h below = h.0
+makes_at (f ∷ fs) (suc i) form h below = makes_at fs i form h.1 (omega arith)
+
+-- it begins with it, and so with a reply
+pub form_found : (text : List ℕ) (i : ℕ) (words : List ℕ) (end : Tail) (rest : List ℕ) → i < length forms → (words, end) ≡ get_or forms i (words, end)
+    → Finds (form_text words end) (tail_fits end) text (Some rest) → Finds plain_text plain_fits text (Some rest)
+form_found text i words end rest below at (t, fit, written) =
+    let makes = subst Makes (sym at) (makes_at forms i (words, end) all_make below) in
+    let made = makes t fit in
+    (made.0, made.1, written ∙ ap (λ (z : List ℕ). z ++ rest) (sym made.2))

@@ -111,18 +111,35 @@ fn key_line(text: &[u8]) -> Option<&[u8]>
     behind(items(text, false, b")")?, b"\n")
 }
 
+/// What stands behind a number that is at most so great, and the end of the line.
+fn behind_number(text: &[u8], most: u64) -> Option<&[u8]>
+    ensures { Finds number_line (is_at_most most) text.now (option_copied result) }
+{
+    let (_, rest) = number_line(text, most)?;
+    Some(rest)
+}
+
+/// What stands behind a name, words that end it, a number of 32 bits, and the end of the line.
+fn behind_named<'a>(text: &'a [u8], words: &[u8]) -> Option<&'a [u8]>
+    requires { IsTrue (part_name words.now) }
+    ensures { Finds (named_line words.now) table_fits text.now (option_copied result) }
+{
+    let (_, _, rest) = named_line(text, words)?;
+    Some(rest)
+}
+
 /// What stands behind the words of a reply.
 fn tail_line(text: &[u8], end: Tail) -> Option<&[u8]>
     ensures { Finds (tail_text end) (tail_fits end) text.now (option_copied result) }
 {
     match end {
         Tail::Nothing => behind(text, b"\n"),
-        Tail::Byte => Some(number_line(text, u64::from(u8::MAX))?.1),
-        Tail::Short => Some(short_line(text)?.1),
-        Tail::Long => Some(number_line(text, u64::MAX)?.1),
+        Tail::Byte => behind_number(text, 0xff),
+        Tail::Short => behind_number(text, 0xffff_ffff),
+        Tail::Long => behind_number(text, u64::MAX),
         Tail::Name => name_line(text),
-        Tail::NameAndItem => Some(named_line(text, b" item ")?.2),
-        Tail::NameAndRows => Some(named_line(text, b" ")?.2),
+        Tail::NameAndItem => behind_named(text, b" item "),
+        Tail::NameAndRows => behind_named(text, b" "),
         Tail::Key => key_line(text),
     }
 }

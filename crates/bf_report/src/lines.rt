@@ -129,7 +129,7 @@ fn running(text: &[u8]) -> Option<&[u8]>
     ensures { Finds running_text running_fits text.now (option_copied result) }
 {
     let (_, rest) = worded(text, b" moved ")?;
-    let (_, rest) = number(behind(rest, b" next unit ")?, u64::from(u8::MAX))?;
+    let (_, rest) = number(behind(rest, b" next unit ")?, 0xff)?;
     Some(short_line(behind(rest, b" position ")?)?.1)
 }
 

@@ -7,6 +7,7 @@ ghost use Rattle.std.specs.Prelude.{◌≡◌, ◌≤◌, codes, not, unwrap_or,
 ghost use Rattle.std.specs.Fmt.{decimal, signed_decimal};
 ghost use Rattle.std.specs.List.{list_all};
 ghost use Rattle.bf_base.specs.Names.{is_digit, is_name, is_name_byte};
+ghost use Rattle.bf_base.specs.Texts.{is_text_byte};
 ghost use Rattle.bf_text.specs.Replies.{cell_text};
 ghost use Rattle.bf_report.specs.Lines.{EndsCell, EndsInt, EndsLine, EndsName, EndsNumber, EndsText, IsEnd, Passes, Reads, closed, closed_further, is_at_most, is_text_within, item_has_room, items_have_room, number_behind, number_with, quoted_text, starts};
 ghost use Rattle.bf_verdict.specs.Room.{is_i64, is_u32};
@@ -72,7 +73,7 @@ pub(crate) fn short_number(text: &[u8]) -> Option<(u32, &[u8])>
     ensures { Reads decimal is_u32 EndsNumber text.now
         (option_map (λ r. (r.0, r.1.now)) result) }
 {
-    let (value, rest) = number(text, u64::from(u32::MAX))?;
+    let (value, rest) = number(text, 0xffff_ffff)?;
     Some((value as u32, rest))
 }
 
@@ -97,14 +98,22 @@ fn is_name_byte(byte: u8) -> bool
     matches!(byte, b'a'..=b'z' | b'0'..=b'9' | b'_')
 }
 
+/// The place of the first byte that stands in no name.
+fn first_other(text: &[u8]) -> Option<usize>
+    ensures { result ≡ position (λ b. not (is_name_byte b)) text.now }
+{
+    text.iter().position(|byte| !is_name_byte(*byte))
+}
+
 /// How many bytes of a name a text begins with.
 fn name_length(text: &[u8]) -> usize
     ensures { result
         ≡ unwrap_or (position (λ b. not (is_name_byte b)) text.now) (length text.now) }
 {
-    text.iter()
-        .position(|byte| !is_name_byte(*byte))
-        .unwrap_or(text.len())
+    match first_other(text) {
+        Some(length) => length,
+        None => text.len(),
+    }
 }
 
 /// Whether bytes that stand in names are one.
@@ -131,28 +140,51 @@ pub(crate) fn name(text: &[u8]) -> Option<(&[u8], &[u8])>
     Some((name, rest))
 }
 
+fn is_text_byte(byte: u8) -> bool
+    ensures { result ≡ is_text_byte byte }
+{
+    matches!(byte, b' '..=b'~')
+}
+
 /// A text of at most so many bytes behind its first quote, with its last one.
 fn quoted(text: &[u8], room: usize) -> Option<&[u8]>
     ensures { Passes quoted_text (is_text_within room) EndsText text.now (option_copied result) }
 {
-    match text {
-        [b'\'', b'\'', ..] if room == 0 => None,
-        [b'\'', b'\'', rest @ ..] => quoted(rest, room - 1),
-        [b'\'', rest @ ..] => Some(rest),
-        [b' '..=b'~', rest @ ..] if room > 0 => quoted(rest, room - 1),
-        _ => None,
+    let [byte, rest @ ..] = text else {
+        return None;
+    };
+    if *byte == b'\'' {
+        let Some(more) = behind(rest, b"'") else {
+            return Some(rest);
+        };
+        if room == 0 {
+            return None;
+        }
+        return quoted(more, room - 1);
     }
+    if room == 0 {
+        return None;
+    }
+    if !is_text_byte(*byte) {
+        return None;
+    }
+    quoted(rest, room - 1)
 }
 
 /// A value, or `NULL` where it may stand for none.
 fn item(text: &[u8], or_none: bool) -> Option<&[u8]>
     ensures { Passes cell_text (item_has_room or_none) EndsCell text.now (option_copied result) }
 {
-    match text {
-        [b'\'', rest @ ..] => quoted(rest, LONGEST_TEXT),
-        [b'N', ..] if or_none => behind(text, b"NULL"),
-        _ => integer(text),
+    if let Some(rest) = behind(text, b"'") {
+        return quoted(rest, LONGEST_TEXT);
     }
+    if !or_none {
+        return integer(text);
+    }
+    if let Some(rest) = behind(text, b"NULL") {
+        return Some(rest);
+    }
+    integer(text)
 }
 
 /// Values, each behind a comma and a space; and the end.

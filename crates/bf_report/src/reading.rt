@@ -1,6 +1,6 @@
 //! Reading a report from its first line to its last.
 
-ghost use Rattle.std.specs.Prelude.{◌≡◌, ℕ, ◌+◌, ◌-◌, ◌<◌, ◌≤◌, ◌^◌, ◌++◌, List, [], ◌∷◌, Err, IfOk, IsTrue, flat_map, length, map};
+ghost use Rattle.std.specs.Prelude.{◌≡◌, ℕ, ◌+◌, ◌-◌, ◌<◌, ◌≤◌, ◌^◌, ◌++◌, List, [], ◌∷◌, Err, IfOk, IsTrue, flat_map, length, map, ⊤};
 ghost use Rattle.std.specs.List.{list_all};
 ghost use Rattle.bf_text.specs.Replies.{reply_text, row_line};
 ghost use Rattle.bf_text.specs.Report.{commits_of, entry_text, session_text, table_line, texts_from};
@@ -31,22 +31,22 @@ pub struct Reading {
 }
 
 /// Where in a report of so many bytes this is the rest.
-fn place_of(length: usize, left: &[u8]) -> u32
-    requires within { length left.now ≤ length }
-    requires short { length < 2 ^ 32 }
-    ensures { result + length left.now ≡ length }
+fn place_of(size: usize, left: &[u8]) -> u32
+    requires within { length left.now ≤ size }
+    requires short { size < 2 ^ 32 }
+    ensures { result + length left.now ≡ size }
 {
-    (length - left.len()) as u32
+    (size - left.len()) as u32
 }
 
 /// The lines of so many rows: what stands behind them.
-fn rows(length: usize, text: &[u8], place: Place, count: u64) -> Result<&[u8], ReportError>
-    requires within { length text.now ≤ length }
-    requires short { length < 2 ^ 32 }
+fn rows(size: usize, text: &[u8], place: Place, count: u64) -> Result<&[u8], ReportError>
+    requires within { length text.now ≤ size }
+    requires short { size < 2 ^ 32 }
     ensures told { IfOk result (λ left. (rows : List (List Cell)) × (length rows ≡ count)
         × IsTrue (list_all row_has_room rows)
         × (text.now ≡ flat_map (row_line place.session place.statement) rows ++ left.now)) }
-    ensures goes { (script : Told) (bytes : List ℕ) (places : List At) → length bytes ≡ length
+    ensures goes { (script : Told) (bytes : List ℕ) (places : List At) → length bytes ≡ size
         → Stands script (GoesRows count (place.session, place.statement) places) bytes text.now
         → IfRead result (λ left. Stands script (GoesReplies places) bytes left.now)
         (IsNoReport script bytes) }
@@ -55,7 +55,7 @@ fn rows(length: usize, text: &[u8], place: Place, count: u64) -> Result<&[u8], R
     let mut due = count;
     while due > 0 {
         let Some(behind) = row_line(left, place) else {
-            return Err(ReportError::NoReport(place_of(length, left)));
+            return Err(ReportError::NoReport(place_of(size, left)));
         };
         left = behind;
         due -= 1;
@@ -64,19 +64,19 @@ fn rows(length: usize, text: &[u8], place: Place, count: u64) -> Result<&[u8], R
 }
 
 /// The lines of a reply: what stands behind them.
-fn reply(length: usize, text: &[u8], place: Place) -> Result<&[u8], ReportError>
-    requires within { length text.now ≤ length }
-    requires short { length < 2 ^ 32 }
+fn reply(size: usize, text: &[u8], place: Place) -> Result<&[u8], ReportError>
+    requires within { length text.now ≤ size }
+    requires short { size < 2 ^ 32 }
     ensures told { IfOk result (λ left. (r : Reply) × IsTrue (reply_fits r)
         × (text.now ≡ reply_text place.session place.statement r ++ left.now)) }
-    ensures goes { (script : Told) (bytes : List ℕ) (places : List At) → length bytes ≡ length
+    ensures goes { (script : Told) (bytes : List ℕ) (places : List At) → length bytes ≡ size
         → Stands script (GoesReplies ((place.session, place.statement) ∷ places)) bytes text.now
         → IfRead result (λ left. Stands script (GoesReplies places) bytes left.now)
         (IsNoReport script bytes) }
 {
     match reply_line(text, place) {
-        Some((count, behind)) => rows(length, behind, place, count),
-        None => Err(ReportError::NoReport(place_of(length, text))),
+        Some((count, behind)) => rows(size, behind, place, count),
+        None => Err(ReportError::NoReport(place_of(size, text))),
     }
 }
 
@@ -84,18 +84,18 @@ fn reply(length: usize, text: &[u8], place: Place) -> Result<&[u8], ReportError>
 /// them.
 fn session<'a>(
     alloc: Global,
-    length: usize,
+    size: usize,
     text: &'a [u8],
     session: u64,
     statements: usize,
 ) -> Result<(Vec<u32>, &'a [u8]), ReportError>
-    requires within { length text.now ≤ length }
-    requires short { length < 2 ^ 32 }
+    requires within { length text.now ≤ size }
+    requires short { size < 2 ^ 32 }
     ensures told { IfOk result (λ r. (replies : List Reply) × (length replies ≡ statements)
         × IsTrue (list_all reply_fits replies)
         × (text.now ≡ session_text session replies ++ r.1.now)
-        × (r.0.items ≡ starts_of session 1 (length - length text.now) replies)) }
-    ensures goes { (script : Told) (bytes : List ℕ) (places : List At) → length bytes ≡ length
+        × (r.0.items ≡ starts_of session 1 (size - length text.now) replies)) }
+    ensures goes { (script : Told) (bytes : List ℕ) (places : List At) → length bytes ≡ size
         → Stands script (GoesReplies (places_from session 1 statements ++ places)) bytes text.now
         → IfRead result (λ r. Stands script (GoesReplies places) bytes r.1.now)
         (IsNoReport script bytes) }
@@ -103,12 +103,12 @@ fn session<'a>(
     let mut places = Vec::with_capacity(alloc, statements)?;
     let mut left = text;
     for index in 0..statements {
-        places.push(place_of(length, left))?;
+        places.push(place_of(size, left))?;
         let place = Place {
             session,
             statement: index as u64 + 1,
         };
-        left = reply(length, left, place)?;
+        left = reply(size, left, place)?;
     }
     Ok((places, left))
 }
@@ -116,18 +116,18 @@ fn session<'a>(
 /// The replies of all sessions: where they begin in a report of so many bytes, and what stands behind them.
 fn sessions<'a>(
     alloc: Global,
-    length: usize,
+    size: usize,
     text: &'a [u8],
     sessions: &[Session],
 ) -> Result<(Vec<Vec<u32>>, &'a [u8]), ReportError>
-    requires within { length text.now ≤ length }
-    requires short { length < 2 ^ 32 }
+    requires within { length text.now ≤ size }
+    requires short { size < 2 ^ 32 }
     ensures told { IfOk result (λ r. (transcripts : List (List Reply))
         × (map (λ t. length t) transcripts ≡ map (λ s. length s.statements) sessions.now)
         × IsTrue (list_all (λ t. list_all reply_fits t) transcripts)
         × (text.now ≡ texts_from session_text 1 transcripts ++ r.1.now)
-        × AreStarts 1 (length - length text.now) r.0.items transcripts) }
-    ensures goes { (script : Told) (bytes : List ℕ) → length bytes ≡ length
+        × AreStarts 1 (size - length text.now) r.0.items transcripts) }
+    ensures goes { (script : Told) (bytes : List ℕ) → length bytes ≡ size
         → Stands script (GoesReplies (all_places 1 sessions.now)) bytes text.now
         → IfRead result (λ r. Stands script (GoesEntries 1 0) bytes r.1.now)
         (IsNoReport script bytes) }
@@ -136,7 +136,7 @@ fn sessions<'a>(
     let mut left = text;
     for (index, entered) in sessions.iter().enumerate() {
         let statements = entered.statements.len();
-        let (places, behind) = session(alloc, length, left, index as u64 + 1, statements)?;
+        let (places, behind) = session(alloc, size, left, index as u64 + 1, statements)?;
         replies.push(places)?;
         left = behind;
     }
@@ -182,19 +182,21 @@ fn tables(text: &[u8]) -> &[u8]
 }
 
 /// Reads the last line, which tells so many commits, and behind which nothing stands.
-fn end(length: usize, text: &[u8], commits: u64) -> Result<(), ReportError>
-    requires within { length text.now ≤ length }
-    requires short { length < 2 ^ 32 }
+fn end(size: usize, text: &[u8], commits: u64) -> Result<(), ReportError>
+    requires within { length text.now ≤ size }
+    requires short { size < 2 ^ 32 }
     ensures told { IfOk result (λ _. GoesEnd commits text.now) }
-    ensures goes { (script : Told) (bytes : List ℕ) → length bytes ≡ length
+    ensures goes { (script : Told) (bytes : List ℕ) → length bytes ≡ size
         → Stands script (GoesEnd commits) bytes text.now
-        → (at : ℕ) → result ≡ Err (ReportError.NoReport at) → IsNoReport script bytes at }
+        → IfRead result (λ _. ⊤) (IsNoReport script bytes) }
 {
-    match end_line(text, commits) {
-        Some([]) => Ok(()),
-        Some(behind) => Err(ReportError::NoReport(place_of(length, behind))),
-        None => Err(ReportError::NoReport(place_of(length, text))),
+    let Some(behind) = end_line(text, commits) else {
+        return Err(ReportError::NoReport(place_of(size, text)));
+    };
+    if !behind.is_empty() {
+        return Err(ReportError::NoReport(place_of(size, behind)));
     }
+    Ok(())
 }
 
 /// How many transactions committed.
@@ -220,11 +222,11 @@ pub fn read_report(alloc: Global, script: &Script, bytes: &[u8]) -> Result<Readi
     ensures no_report { (at : ℕ) → result ≡ Err (ReportError.NoReport at)
         → IsNoReport script.now bytes.now at }
 {
-    let length = bytes.len();
-    let (replies, left) = sessions(alloc, length, bytes, script.sessions.as_slice())?;
+    let size = bytes.len();
+    let (replies, left) = sessions(alloc, size, bytes, script.sessions.as_slice())?;
     let (entries, left) = entries(alloc, left)?;
-    let audit = place_of(length, left);
-    end(length, tables(left), commits_in(entries.as_slice()))?;
+    let audit = place_of(size, left);
+    end(size, tables(left), commits_in(entries.as_slice()))?;
     Ok(Reading {
         replies,
         entries,

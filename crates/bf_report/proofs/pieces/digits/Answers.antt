@@ -11,7 +11,7 @@ returns-then-not-is_digit c =
 pub returns-in_err-value : goal.returns-in_err-value
 returns-in_err-value c =
     let digit : is_digit (get_or c.args.text.now c.loop-byte.byte-index 0) ≡ true = cc in
-    c.from_residual.ensures.1
+    c.from_residual.ensures
     ∙ sym (digit_next c.loop-byte.value c.loop-byte.byte-index c.args.text.now None c.loop-byte-test.true digit c.in_err-value.ensures)
     ∙ c.loop-byte.invariant
 

@@ -7,7 +7,7 @@ returns-in_default c = plain c.args.text.now c.in_default.ensures _ c.in_ok-rest
 
 pub returns-in_err-value : goal.returns-in_err-value
 returns-in_err-value c =
-    rw c.from_residual-in_err-value.ensures.1 (minus_none c.args.text.now c.in-Some.magnitude.now c.in-Some.ensures c.in_err-value.ensures)
+    rw c.from_residual-in_err-value.ensures (minus_none c.args.text.now c.in-Some.magnitude.now c.in-Some.ensures c.in_err-value.ensures)
 
 pub returns-then-value-eq0 : goal.returns-then-value-eq0
 returns-then-value-eq0 c =

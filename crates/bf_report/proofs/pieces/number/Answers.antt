@@ -7,11 +7,11 @@ use Rattle.bf_report.proofs.pieces.number.Goals as goal
 
 pub returns-in_err-value : goal.returns-in_err-value
 returns-in_err-value c =
-    rw c.from_residual.ensures.1 (number_absent c.args.text.now c.args.most (omega arith) (sym c.in_err-value.ensures))
+    rw c.from_residual.ensures (number_absent c.args.text.now c.args.most (omega arith) (sym c.in_err-value.ensures))
 
 pub returns-in_err-rest : goal.returns-in_err-rest
 returns-in_err-rest c =
-    rw c.from_residual-in_err-rest.ensures.1
+    rw c.from_residual-in_err-rest.ensures
     (number_other c.args.text.now c.args.most (omega arith) c.in_ok-value.value (sym c.in_ok-value.ensures) c.in_err-rest.ensures)
 
 pub returns-then-value-most : goal.returns-then-value-most

@@ -1,0 +1,14 @@
+use Rattle.std.proofs.Common.{◌≡◌, true, false, inl, inr}
+use Rattle.bf_report.proofs.Items.{item_int, item_null, item_text}
+use Rattle.bf_report.proofs.pieces.item.Goals as goal
+
+pub returns-in-Some : goal.returns-in-Some
+returns-in-Some c = item_text c.args.or_none c.args.text.now c.in-Some.rest.now c.in-Some.ensures _ c.quoted.ensures
+
+pub returns-then-not-or_none : goal.returns-then-not-or_none
+returns-then-not-or_none c =
+    let none : c.args.or_none ≡ false = cc in
+    item_int c.args.or_none c.args.text.now c.in_default.ensures (inl none) _ c.integer.ensures
+
+pub returns : goal.returns
+returns c = ?
