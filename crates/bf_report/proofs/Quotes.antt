@@ -1,5 +1,5 @@
 -- Texts between quotes that are read byte by byte.
-use Rattle.std.proofs.Common.{◌≡◌, ◌≢◌, ◌⊎◌, ℕ, suc, ◌+◌, ◌-◌, ◌≤◌, Bool, true, false, cond, ◌&&◌, ◌==◌, IsTrue, List, [], ◌∷◌, ◌++◌, length, drop, get_or, flat_map, codes, Option, None, Some, inl, inr, refl, sym, ap, subst, ◌∙◌, append_assoc, arith}
+use Rattle.std.proofs.Common.{◌≡◌, ◌≢◌, ◌⊎◌, ℕ, suc, ◌+◌, ◌-◌, ◌<◌, ◌≤◌, Bool, true, false, cond, ◌&&◌, ◌==◌, IsTrue, List, [], ◌∷◌, ◌++◌, length, drop, get_or, flat_map, codes, Option, None, Some, inl, inr, refl, sym, ap, subst, ◌∙◌, append_assoc, arith}
 use Rattle.std.specs.Prelude.{nat_le}
 use Rattle.std.specs.List.{list_all}
 use Rattle.std.proofs.lemmas.Bool.{and_from, and_parts, both_ways, eqb-true, eqb-false, le-leb, leb-true}
@@ -156,6 +156,10 @@ unquoted (c ∷ t) none = unquoted_by c t (c == 39) refl none
 
 other_byte : (b : ℕ) → b ≢ 39 → (b == 39) ≡ false
 other_byte b h = grind (arith, nat_tests)
+
+pub no_text : (room : ℕ) (text : List ℕ) → length text < 1 → PassesText room text None
+no_text room [] short = no_bytes room
+no_text room (b ∷ t) short = absurd (omega arith)
 
 module _ (room : ℕ) (text : List ℕ) (b : ℕ) (rest : List ℕ) (cut : text ≡ b ∷ rest) where
   as_text : (r : Option (List ℕ)) → PassesText room (b ∷ rest) r → PassesText room text r

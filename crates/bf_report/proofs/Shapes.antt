@@ -18,7 +18,7 @@ use Rattle.bf_text.specs.Told.{is_named}
 use Rattle.bf_verdict.specs.Room.{is_u8, is_u32, reply_has_room}
 use Rattle.bf_report.specs.Behind.{IsBehind}
 use Rattle.bf_report.specs.Lines.{Finds, is_at_most, is_plain, key_fits, key_line, name_line, named_line, number_line, plain_fits, plain_text, table_fits}
-use Rattle.bf_report.specs.Forms.{Told, form_text, tail_fits, tail_text}
+use Rattle.bf_report.specs.Forms.{Form, Told, form_text, forms, tail_fits, tail_text}
 use Rattle.bf_report.specs.declared.forms.Tail.{Tail}
 use Rattle.bf_report.specs.declared.forms.Tail.TheVariants as tail
 use Rattle.bf_report.proofs.Finds.{found_as}
@@ -82,40 +82,6 @@ key_tail text r h =
     (λ told k. k) (λ told k. refl) text r h
 
 -- ---- the forms
-
-abbrev pub Form : Type 0
-Form = List ℕ × Tail
-
-abbrev pub forms : List Form
-forms =
-    (codes "inserted ", tail.Short) ∷
-    (codes "updated ", tail.Short) ∷
-    (codes "deleted ", tail.Short) ∷
-    (codes "committed ", tail.Long) ∷
-    (codes "begun", tail.Nothing) ∷
-    (codes "rolled back", tail.Nothing) ∷
-    (codes "created", tail.Nothing) ∷
-    (codes "migrated ", tail.Byte) ∷
-    (codes "E1 no table ", tail.Name) ∷
-    (codes "E2 no column ", tail.Name) ∷
-    (codes "E3 type mismatch", tail.Nothing) ∷
-    (codes "E4 duplicate key (", tail.Key) ∷
-    (codes "E5 out of range", tail.Nothing) ∷
-    (codes "E6 too long", tail.Nothing) ∷
-    (codes "E7 table exists ", tail.Name) ∷
-    (codes "E8 wrong count", tail.Nothing) ∷
-    (codes "E9 key column ", tail.Name) ∷
-    (codes "E10 no transaction", tail.Nothing) ∷
-    (codes "E11 in transaction", tail.Nothing) ∷
-    (codes "E12 must be alone", tail.Nothing) ∷
-    (codes "E13 name twice ", tail.Name) ∷
-    (codes "E14 may fail ", tail.NameAndItem) ∷
-    (codes "E15 key not inherited ", tail.Name) ∷
-    (codes "E16 source unknown ", tail.Name) ∷
-    (codes "E17 too many rows ", tail.NameAndRows) ∷
-    (codes "E18 unit limit ", tail.Short) ∷
-    (codes "E19 index exists ", tail.Name) ∷
-    []
 
 -- one name in front of what else is tested
 name_alone : (p : Bool) → ((p && true) && true) ≡ p

@@ -1,6 +1,6 @@
 -- The turns of the loops that read a report.
 use Rattle.std.proofs.Common.{◌≡◌, ℕ, suc, ◌+◌, ◌-◌, ◌<◌, ◌≤◌, Bool, true, ◌&&◌, IsTrue, List, [], ◌∷◌, ◌++◌, length, map, flat_map, take, drop, get_or, Option, None, Some, Result, Ok, Err, refl, sym, ap, subst, ◌∙◌, append_assoc, append-nil, length-append, arith}
-use Rattle.std.specs.Prelude.{IfOk}
+use Rattle.std.specs.Prelude.{IfOk, IsErrAnd}
 use Rattle.std.specs.Global.{Vec}
 use Rattle.std.specs.List.{list_all}
 use Rattle.std.specs.Ordering.{is_lt}
@@ -18,9 +18,11 @@ use Rattle.bf_text.specs.Replies.{reply_text, row_line}
 use Rattle.bf_text.specs.Report.{commit_of, commits_of, entry_text, session_text, table_line, texts_from}
 use Rattle.bf_verdict.specs.Reports.{IsNoReport}
 use Rattle.bf_verdict.specs.Room.{entry_has_room}
-use Rattle.bf_report.specs.Going.{At, GoesEnd, GoesEntries, GoesReplies, GoesRows, GoesTables, Stands, all_places, follow, places_from, reply_fits, starts_of}
+use Rattle.bf_report.specs.Going.{At, GoesEnd, GoesEntries, GoesReplies, GoesRows, GoesTables, IfRead, Stands, all_places, follow, places_from, reply_fits, starts_of}
 use Rattle.bf_report.specs.Lines.{EndsLine, Finds, FindsHead, Reads, head_text, row_has_room, table_fits}
 use Rattle.bf_report.specs.Reading.{AreStarts}
+use Rattle.bf_report.specs.declared.error.ReportError.{ReportError}
+use Rattle.bf_report.specs.declared.error.ReportError.TheVariants as report
 use Rattle.bf_report.proofs.InTurn.{read_begins}
 use Rattle.bf_report.proofs.Onward.{NoTable, entries_done, entry_step, followed, follows, table_step, tables_done}
 use Rattle.bf_report.proofs.Steps.{head_step, head_stop, join_reply, row_step, row_stop, rows_done}
@@ -35,6 +37,16 @@ texts_push f n (y ∷ ys) x =
 
 all_push : {X : Type 0} (p : X → Bool) (xs : List X) (x : X) → IsTrue (list_all p xs) → IsTrue (p x) → IsTrue (list_all p (xs ++ x ∷ []))
 all_push p xs x h k = list_all-append p xs (x ∷ []) ∙ and_from (list_all p xs) (list_all p (x ∷ [])) h (and_from (p x) true k refl)
+
+-- what stops a part of what is read stops the whole
+same_stop : {X Y : Type 0} (e : ReportError) (P : X → Type 0) (R : Y → Type 0) (Q : ℕ → Type 0) → IfRead (Err e) P Q → IfRead (Err e) R Q
+same_stop (report.NoReport at) P R Q h = h
+same_stop report.Memory P R Q h = tt
+
+pub passed_on : {X Y : Type 0} (e : ReportError) (r : Result Y ReportError) (P : X → Type 0) (R : Y → Type 0) (Q : ℕ → Type 0)
+    → IsErrAnd r (λ f. f ≡ e) → IfRead (Err e) P Q → IfRead r R Q
+passed_on e (Ok y) P R Q h k = absurd h
+passed_on e (Err f) P R Q h k = subst (λ (z : ReportError). IfRead (Err z) R Q) (sym h) (same_stop e P R Q k)
 
 -- ---- rows
 
@@ -155,6 +167,12 @@ module _ (size s statements : ℕ) (text : List ℕ) where
     one_left : statements - index ≡ suc (statements - (index + 1))
     one_left = omega arith
 
+    pub session_at : (script : Script) (bytes : List ℕ) (more : List At) → length bytes ≡ size
+        → Stands script (GoesReplies (places_from s 1 statements ++ more)) bytes text
+        → Stands script (GoesReplies ((s, index + 1) ∷ (places_from s (index + 1 + 1) (statements - (index + 1)) ++ more))) bytes left
+    session_at script bytes more e stands =
+        subst (λ (m : ℕ). Stands script (GoesReplies (places_from s (index + 1) m ++ more)) bytes left) one_left (so.goes script bytes more e stands)
+
     pub session_next : (at : ℕ) → at + length left ≡ size → (behind : List ℕ) (r : Reply) → IsTrue (reply_fits r)
         → left ≡ reply_text s (index + 1) r ++ behind
         → ((script : Script) (bytes : List ℕ) (more : List At) → length bytes ≡ size → Stands script (GoesReplies ((s, index + 1) ∷ more)) bytes left
@@ -182,8 +200,7 @@ module _ (size s statements : ℕ) (text : List ℕ) where
           starts = ap (λ (z : List ℕ). z ++ at ∷ []) so.starts ∙ ap (λ (m : ℕ). starts_of s 1 (size - length text) so.replies ++ m ∷ []) (sym start)
               ∙ sym (starts_push s 1 (size - length text) so.replies r);
           goes = λ script bytes more e stands.
-              on script bytes (places_from s (index + 1 + 1) (statements - (index + 1)) ++ more) e
-              (subst (λ (m : ℕ). Stands script (GoesReplies (places_from s (index + 1) m ++ more)) bytes left) one_left (so.goes script bytes more e stands));
+              on script bytes (places_from s (index + 1 + 1) (statements - (index + 1)) ++ more) e (session_at script bytes more e stands);
         }
 
   pub session_goes : (index : ℕ) (places left : List ℕ) → SessionSo size s statements text index places left → statements ≤ index
@@ -241,12 +258,20 @@ module _ (size : ℕ) (sessions : List Session) (text : List ℕ) where
 
   module _ (index : ℕ) (places : List (Vec ℕ)) (left : List ℕ) (so : SessionsSo size sessions text index places left) (below : index < length sessions)
       (entered : Session) (is : entered ≡ get_or sessions index entered) where
+    pub sessions_at : (script : Script) (bytes : List ℕ) → length bytes ≡ size → Stands script (GoesReplies (all_places 1 sessions)) bytes text
+        → Stands script
+        (GoesReplies (places_from (index + 1) 1 (length entered.statements) ++ all_places (index + 1 + 1) (drop (index + 1) sessions))) bytes left
+    sessions_at script bytes e stands =
+        let split : drop index sessions ≡ entered ∷ drop (index + 1) sessions =
+            drop_more sessions index entered below ∙ ap (λ (u : Session). u ∷ drop (index + 1) sessions) (sym is) in
+        subst (λ (z : List Session). Stands script (GoesReplies (all_places (index + 1) z)) bytes left) split (so.goes script bytes e stands)
+
     pub sessions_next : (p : Vec ℕ) (behind : List ℕ) (t : List Reply) → length t ≡ length entered.statements → IsTrue (list_all reply_fits t)
-        → left ≡ session_text (index + 1) t ++ behind → p.items ≡ starts_of (index + 1) 1 (size - length left) t → length behind ≤ size
+        → left ≡ session_text (index + 1) t ++ behind → p.items ≡ starts_of (index + 1) 1 (size - length left) t
         → ((script : Script) (bytes : List ℕ) (more : List At) → length bytes ≡ size
         → Stands script (GoesReplies (places_from (index + 1) 1 (length entered.statements) ++ more)) bytes left → Stands script (GoesReplies more) bytes behind)
         → SessionsSo size sessions text (index + 1) (places ++ p ∷ []) behind
-    sessions_next p behind t size_is fit written start within on =
+    sessions_next p behind t size_is fit written start on =
         let read = texts_from session_text 1 so.transcripts in
         let counted = so.counted in
         let first = so.first in
@@ -255,9 +280,11 @@ module _ (size : ℕ) (sessions : List Session) (text : List ℕ) where
         let at : size - length left ≡ (size - length text) + length read = omega arith in
         let all : length (so.transcripts ++ t ∷ []) ≡ length so.transcripts + 1 = length-append so.transcripts (t ∷ []) in
         let number : index + 1 ≡ length so.transcripts + 1 = omega arith in
+        let shorter : length left ≡ length (session_text (index + 1) t) + length behind =
+            ap length written ∙ length-append (session_text (index + 1) t) behind in
         record {
           first = first;
-          within = within;
+          within = omega arith;
           transcripts = so.transcripts ++ t ∷ [];
           counted = omega arith;
           sizes = map-append (λ (u : List Reply). length u) so.transcripts (t ∷ [])
@@ -273,11 +300,7 @@ module _ (size : ℕ) (sessions : List Session) (text : List ℕ) where
               (start ∙ ap (λ (m : ℕ). starts_of (index + 1) 1 m t) at
               ∙ ap (λ (m : ℕ). starts_of m 1 ((size - length text) + length read) t) number);
           goes = λ script bytes e stands.
-              let now = so.goes script bytes e stands in
-              let split : drop index sessions ≡ entered ∷ drop (index + 1) sessions =
-                  drop_more sessions index entered below ∙ ap (λ (u : Session). u ∷ drop (index + 1) sessions) (sym is) in
-              on script bytes (all_places (index + 1 + 1) (drop (index + 1) sessions)) e
-              (subst (λ (z : List Session). Stands script (GoesReplies (all_places (index + 1) z)) bytes left) split now);
+              on script bytes (all_places (index + 1 + 1) (drop (index + 1) sessions)) e (sessions_at script bytes e stands);
         }
 
   pub sessions_goes : (index : ℕ) (places : List (Vec ℕ)) (left : List ℕ) → SessionsSo size sessions text index places left → length sessions ≤ index

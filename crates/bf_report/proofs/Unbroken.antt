@@ -25,14 +25,14 @@ use Rattle.bf_tree.specs.declared.reply.Reply.TheVariants as reply
 use Rattle.bf_text.specs.Replies.{cell_text, listed, newline, numbered, place_text, quoted, row_line, value_text, values_text}
 use Rattle.bf_text.specs.Report.{end_text, entry_text, outcome_text, sweep_text, table_line}
 use Rattle.bf_verdict.specs.Room.{cell_has_room, is_text, is_u8, is_u32, sweep_has_room, value_has_room}
-use Rattle.bf_report.specs.Forms.{Told, form_text, tail_fits, tail_text}
+use Rattle.bf_report.specs.Forms.{Form, Told, form_text, forms, tail_fits, tail_text}
 use Rattle.bf_report.specs.Going.{is_unbroken}
 use Rattle.bf_report.specs.Lines.{Head, OneLine, RowsOf, ended_cause, ended_outcome, ended_sweep, head_body, head_fits, head_text, key_fits, key_line, name_line, named_line, number_line, plain_fits, plain_text, row_has_room, table_fits, two_numbers}
 use Rattle.bf_report.specs.declared.forms.Tail.{Tail}
 use Rattle.bf_report.specs.declared.forms.Tail.TheVariants as tail
 use Rattle.bf_report.proofs.Heads.{plain_or_cause}
 use Rattle.bf_report.proofs.Names.{name_bytes}
-use Rattle.bf_report.proofs.Shapes.{Form, OneOf, forms, of_form}
+use Rattle.bf_report.proofs.Shapes.{OneOf, of_form}
 use Rattle.bf_report.proofs.Walks.{IsLine, line_behind, newline_line}
 
 abbrev pub Calm : List ℕ → Type 0

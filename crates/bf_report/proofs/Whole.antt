@@ -1,5 +1,5 @@
 -- Reports, and what goes on from their first byte.
-use Rattle.std.proofs.Common.{◌≡◌, ℕ, suc, zero, ◌+◌, ◌-◌, ◌<◌, ◌≤◌, Bool, true, false, ◌&&◌, IsTrue, List, [], ◌∷◌, ◌++◌, length, map, flat_map, drop, Some, refl, sym, ap, subst, ◌∙◌, append_assoc, append-nil, length-append, arith}
+use Rattle.std.proofs.Common.{◌≡◌, ℕ, suc, zero, ◌+◌, ◌-◌, ◌<◌, ◌≤◌, Bool, true, false, ◌&&◌, IsTrue, List, [], ◌∷◌, ◌++◌, length, map, flat_map, drop, Some, Result, Ok, Err, refl, sym, ap, subst, ◌∙◌, append_assoc, append-nil, length-append, arith}
 use Rattle.std.specs.Prelude.{⊤}
 use Rattle.std.specs.Global.{Vec}
 use Rattle.std.specs.List.{list_all, range_with_len}
@@ -19,9 +19,12 @@ use Rattle.bf_text.specs.Report.{commits_of, end_text, entry_text, session_text,
 use Rattle.bf_text.specs.Told.{IsTold, is_named}
 use Rattle.bf_verdict.specs.Reports.{AreOf, IsReport, Parts, text_of}
 use Rattle.bf_verdict.specs.Room.{entry_has_room, reply_has_room, sweep_has_room, table_has_room}
-use Rattle.bf_report.specs.Going.{At, GoesEnd, GoesEntries, GoesReplies, GoesTables, IsSomeReport, SharesLine, Stands, all_places, follow, places_from, reply_fits, starts_of}
+use Rattle.bf_report.specs.Going.{At, GoesEnd, GoesEntries, GoesReplies, GoesTables, IfRead, IsSomeReport, SharesLine, Stands, all_places, follow, places_from, reply_fits, starts_of}
 use Rattle.bf_report.specs.Lines.{table_fits}
-use Rattle.bf_report.specs.Reading.{AreStarts, RepliesStandAt, SessionsStandAt, StandsAt}
+use Rattle.bf_report.specs.declared.error.ReportError.{ReportError}
+use Rattle.bf_report.specs.declared.error.ReportError.TheVariants as report
+use Rattle.bf_report.specs.declared.reading.Reading.{Reading}
+use Rattle.bf_report.specs.Reading.{AreStarts, IsReadingOf, RepliesStandAt, SessionsStandAt, StandsAt}
 
 -- ---- two tests as one
 
@@ -276,3 +279,53 @@ sessions_stand s (t ∷ ts) (p ∷ ps) front rest starts =
     (subst (λ (z : List ℕ). RepliesStandAt z s 1 p.items t) (sym regrouped)
     (subst (λ (places : List ℕ). RepliesStandAt (front ++ (text ++ later)) s 1 places t) (sym starts.0) here),
     subst (λ (z : List ℕ). SessionsStandAt z (s + 1) ps ts) whole more)
+
+-- ---- what was read is a report
+
+module _ (script : Script) (bytes : List ℕ) (places : List (Vec ℕ)) (entries : List Entry) (audit commits : ℕ) (behind_replies behind_entries behind_tables : List ℕ) where
+  -- what was read of its replies, its transactions, its tables and its last line
+  abbrev pub RepliesRead : Type 0
+  RepliesRead =
+      (transcripts : List (List Reply)) × (map (λ t. length t) transcripts ≡ map (λ u. length u.statements) script.sessions)
+      × IsTrue (list_all (λ t. list_all reply_fits t) transcripts) × (bytes ≡ texts_from session_text 1 transcripts ++ behind_replies)
+      × AreStarts 1 (length bytes - length bytes) places transcripts
+
+  abbrev pub EntriesRead : Type 0
+  EntriesRead = IsTrue (list_all entry_has_room entries) × (behind_replies ≡ texts_from entry_text 1 entries ++ behind_entries)
+
+  abbrev pub TablesRead : Type 0
+  TablesRead = (tables : List (List ℕ × ℕ)) × IsTrue (follow [] tables) × (behind_entries ≡ flat_map table_line tables ++ behind_tables)
+
+  pub read_whole : (reading : Reading) → reading.replies.items ≡ places → reading.entries.items ≡ entries → reading.audit ≡ audit → RepliesRead
+      → EntriesRead → audit + length behind_entries ≡ length bytes → TablesRead → commits ≡ commits_of entries → GoesEnd commits behind_tables
+      → (parts : Parts) × IsReadingOf script bytes parts reading
+  read_whole reading same_places same_entries same_audit (transcripts, sizes, fits, first, starts) (rooms, second) at (tables, rising, third) counted
+      (sweep, room, fourth) =
+      let parts : Parts = record { transcripts = transcripts; history = entries; audit = tables; sweep = sweep } in
+      let replies = texts_from session_text 1 transcripts in
+      let done = texts_from entry_text 1 entries in
+      let last : behind_tables ≡ end_text (commits_of entries) sweep = fourth ∙ ap (λ (n : ℕ). end_text n sweep) counted in
+      let told : behind_entries ≡ flat_map table_line tables ++ end_text (commits_of entries) sweep =
+          third ∙ ap (λ (z : List ℕ). flat_map table_line tables ++ z) last in
+      let behind : behind_replies ≡ done ++ behind_entries = second in
+      let front : bytes ≡ (replies ++ done) ++ behind_entries =
+          first ∙ ap (λ (z : List ℕ). replies ++ z) second ∙ sym (append_assoc replies done behind_entries) in
+      let size : length bytes ≡ length (replies ++ done) + length behind_entries = ap length front ∙ length-append (replies ++ done) behind_entries in
+      let place : audit ≡ length (replies ++ done) = omega arith in
+      let none : length bytes - length bytes ≡ 0 = omega arith in
+      let written : bytes ≡ in_turn parts =
+          first ∙ ap (λ (z : List ℕ). replies ++ z) (second ∙ ap (λ (z : List ℕ). done ++ z) told) in
+      (parts, record {
+        report = made_report script bytes parts
+            (record { answered = sizes; replies = fits; entries = rooms; tables = rising; last = room }) written;
+        replies = subst (λ (z : List (Vec ℕ)). SessionsStandAt bytes 1 z transcripts) (sym same_places)
+            (subst (λ (z : List ℕ). SessionsStandAt z 1 places transcripts) (sym first)
+            (sessions_stand 1 transcripts places [] behind_replies (subst (λ (n : ℕ). AreStarts 1 n places transcripts) none starts)));
+        entries = same_entries;
+        audit = ap (λ (n : ℕ). drop n bytes) (same_audit ∙ place) ∙ ap (drop (length (replies ++ done))) front
+            ∙ drop-append_seam (replies ++ done) behind_entries ∙ told;
+      })
+
+-- an answer that is a place
+pub stopped_here : {Y : Type 0} (r : Result Y ReportError) (R : Y → Type 0) (Q : ℕ → Type 0) (at : ℕ) → IfRead r R Q → r ≡ Err (report.NoReport at) → Q at
+stopped_here r R Q at h e = let stop = subst (λ z. IfRead z R Q) e h in stop

@@ -1,8 +1,8 @@
 //! The words of replies, and what stands behind them.
 
-ghost use Rattle.std.specs.Prelude.{◌&&◌, not, option_map, option_copied, IsTrue};
+ghost use Rattle.std.specs.Prelude.{◌≡◌, ◌<◌, option_map, option_copied, slice_index_or, IsTrue};
 ghost use Rattle.bf_base.specs.Names.{is_name};
-ghost use Rattle.bf_report.specs.Forms.{form_text, tail_fits, tail_text};
+ghost use Rattle.bf_report.specs.Forms.{form_text, forms, tail_fits, tail_text};
 ghost use Rattle.bf_report.specs.Lines.{EndsLine, EndsNumber, Finds, Reads, is_at_most, key_fits, key_line, name_line, named_line, number_line, part_name, plain_fits, plain_text, table_fits, worded};
 ghost use Rattle.bf_verdict.specs.Room.{is_u32};
 
@@ -29,35 +29,41 @@ pub(crate) enum Tail {
 }
 
 /// The replies that are one line and tell no cause: their words, none of which begin others, and what stands behind.
-const FORMS: [(&[u8], Tail); 27] = [
-    (b"inserted ", Tail::Short),
-    (b"updated ", Tail::Short),
-    (b"deleted ", Tail::Short),
-    (b"committed ", Tail::Long),
-    (b"begun", Tail::Nothing),
-    (b"rolled back", Tail::Nothing),
-    (b"created", Tail::Nothing),
-    (b"migrated ", Tail::Byte),
-    (b"E1 no table ", Tail::Name),
-    (b"E2 no column ", Tail::Name),
-    (b"E3 type mismatch", Tail::Nothing),
-    (b"E4 duplicate key (", Tail::Key),
-    (b"E5 out of range", Tail::Nothing),
-    (b"E6 too long", Tail::Nothing),
-    (b"E7 table exists ", Tail::Name),
-    (b"E8 wrong count", Tail::Nothing),
-    (b"E9 key column ", Tail::Name),
-    (b"E10 no transaction", Tail::Nothing),
-    (b"E11 in transaction", Tail::Nothing),
-    (b"E12 must be alone", Tail::Nothing),
-    (b"E13 name twice ", Tail::Name),
-    (b"E14 may fail ", Tail::NameAndItem),
-    (b"E15 key not inherited ", Tail::Name),
-    (b"E16 source unknown ", Tail::Name),
-    (b"E17 too many rows ", Tail::NameAndRows),
-    (b"E18 unit limit ", Tail::Short),
-    (b"E19 index exists ", Tail::Name),
-];
+fn form_at(index: usize) -> (&'static [u8], Tail)
+    requires { index < 27 }
+    ensures { (result.0.now, result.1)
+        ≡ slice_index_or forms index (result.0.now, result.1) }
+{
+    match index {
+        0 => (b"inserted ", Tail::Short),
+        1 => (b"updated ", Tail::Short),
+        2 => (b"deleted ", Tail::Short),
+        3 => (b"committed ", Tail::Long),
+        4 => (b"begun", Tail::Nothing),
+        5 => (b"rolled back", Tail::Nothing),
+        6 => (b"created", Tail::Nothing),
+        7 => (b"migrated ", Tail::Byte),
+        8 => (b"E1 no table ", Tail::Name),
+        9 => (b"E2 no column ", Tail::Name),
+        10 => (b"E3 type mismatch", Tail::Nothing),
+        11 => (b"E4 duplicate key (", Tail::Key),
+        12 => (b"E5 out of range", Tail::Nothing),
+        13 => (b"E6 too long", Tail::Nothing),
+        14 => (b"E7 table exists ", Tail::Name),
+        15 => (b"E8 wrong count", Tail::Nothing),
+        16 => (b"E9 key column ", Tail::Name),
+        17 => (b"E10 no transaction", Tail::Nothing),
+        18 => (b"E11 in transaction", Tail::Nothing),
+        19 => (b"E12 must be alone", Tail::Nothing),
+        20 => (b"E13 name twice ", Tail::Name),
+        21 => (b"E14 may fail ", Tail::NameAndItem),
+        22 => (b"E15 key not inherited ", Tail::Name),
+        23 => (b"E16 source unknown ", Tail::Name),
+        24 => (b"E17 too many rows ", Tail::NameAndRows),
+        25 => (b"E18 unit limit ", Tail::Short),
+        _ => (b"E19 index exists ", Tail::Name),
+    }
+}
 
 /// A number that is at most so great, and the end of the line.
 pub(crate) fn number_line(text: &[u8], most: u64) -> Option<(u64, &[u8])>
@@ -155,8 +161,9 @@ fn form<'a>(text: &'a [u8], words: &[u8], end: Tail) -> Option<&'a [u8]>
 pub(crate) fn plain(text: &[u8]) -> Option<&[u8]>
     ensures { Finds plain_text plain_fits text.now (option_copied result) }
 {
-    for (words, end) in &FORMS {
-        if let Some(rest) = form(text, words, *end) {
+    for index in 0..27 {
+        let (words, end) = form_at(index);
+        if let Some(rest) = form(text, words, end) {
             return Some(rest);
         }
     }

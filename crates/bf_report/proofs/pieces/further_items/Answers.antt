@@ -18,4 +18,4 @@ loop-further-preserved c =
 
 pub returns : goal.returns
 returns c =
-    at_last c.args.or_none c.args.end.now c.requires c.args.text.now c.loop-further.rest.now _ c.loop-further.invariant c.in_default.ensures c.behind.ensures
+    at_last c.args.or_none c.args.end.now c.requires c.args.text.now c.loop-further.rest.now _ c.loop-further.invariant c.in_default.ensures c.behind-2.ensures

@@ -10,5 +10,10 @@ returns-then-not-or_none c =
     let none : c.args.or_none ≡ false = cc in
     item_int c.args.or_none c.args.text.now c.in_default.ensures (inl none) _ c.integer.ensures
 
+pub returns-in-Some-behind : goal.returns-in-Some-behind
+returns-in-Some-behind c =
+    let may : c.args.or_none ≡ true = cc in
+    item_null c.args.or_none c.args.text.now c.in-Some-behind.rest.now may c.in-Some-behind.ensures
+
 pub returns : goal.returns
-returns c = ?
+returns c = item_int c.args.or_none c.args.text.now c.in_default.ensures (inr c.in_default-behind.ensures) _ c.integer-2.ensures

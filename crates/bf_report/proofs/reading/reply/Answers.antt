@@ -1,3 +1,4 @@
+use Rattle.std.proofs.Common.{sym, ◌∙◌}
 use Rattle.bf_report.proofs.Steps.{head_step, head_stop}
 use Rattle.bf_report.proofs.Turns.{reply_told}
 use Rattle.bf_report.proofs.reading.reply.Goals as goal
@@ -15,4 +16,4 @@ returns-in-Some-clause-goes c = λ script bytes places e stands.
 
 pub returns-in-None-clause-goes : goal.returns-in-None-clause-goes
 returns-in-None-clause-goes c = λ script bytes places e stands.
-    head_stop script bytes c.args.text.now c.args.place.session c.args.place.statement places c.place_of.result ? stands c.in-None.ensures
+    head_stop script bytes c.args.text.now c.args.place.session c.args.place.statement places c.place_of.result (c.place_of.ensures ∙ sym e) stands c.in-None.ensures
