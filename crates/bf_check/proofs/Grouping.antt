@@ -10,11 +10,8 @@ use Rattle.bf_base.specs.Lists.{part}
 use Rattle.bf_tree.specs.declared.statement.Statement.{Statement}
 use Rattle.bf_tree.specs.declared.statement.Statement.TheVariants.{Begin, Commit, Rollback}
 use Rattle.bf_sql.specs.Groups.{commits, ends_block, groups_from, groups_of, last_is_commit}
-use Rattle.bf_check.specs.Groups.{block_end_of, group_at, groups_found}
+use Rattle.bf_check.specs.Groups.{Closed, GroupsSo, IsOpen, Open, block_end_of, goes_on, group_at, groups_found}
 use Rattle.bf_check.specs.declared.groups.Group.{Group}
-
-abbrev goes_on : Statement → Bool
-goes_on s = not (ends_block s)
 
 -- ---- the last statement of a block
 
@@ -70,17 +67,6 @@ alone_commits Begin other = absurd (other refl)
 alone_commits s other = refl
 
 -- ---- a loop over a session
-
--- the block that is open, if there is one: it began at a statement, and goes on
-pub data IsOpen (ss : List Statement) (index : ℕ) : Option ℕ → Type 0 where
-  Closed : IsOpen ss index None
-  Open : (b : ℕ) → 1 ≤ b → b ≤ index → (inner : List Statement) → part b index ss ≡ Begin ∷ inner → IsTrue (list_all goes_on inner)
-      → IsOpen ss index (Some b)
-
-pub record GroupsSo (ss : List Statement) (index : ℕ) (began : Option ℕ) (groups : List Group) : Type 0 where
-  pub within : index ≤ length ss
-  pub found : groups ++ map (group_at ss) (groups_from (index + 1) began (drop index ss)) ≡ groups_found ss
-  pub block : IsOpen ss index began
 
 part_more : (ss : List Statement) (b index : ℕ) (s : Statement) → 1 ≤ b → b ≤ index + 1 → index < length ss → s ≡ get_or ss index s
     → part b (index + 1) ss ≡ part b index ss ++ s ∷ []
@@ -201,3 +187,20 @@ module _ (ss : List Statement) where
 
   pub some_statement : (index b : ℕ) → IsOpen ss index (Some b) → 1 ≤ index
   some_statement index b (Open c first order inner is goes) = omega arith
+
+-- ---- what ends a block
+
+pub not_ended : (s : Statement) → None ≡ block_end_of s → ends_block s ≡ false
+not_ended Commit e = absurd cc
+not_ended Rollback e = absurd cc
+not_ended s e = refl
+
+pub ended_by : (s : Statement) (committing : Bool) → Some committing ≡ block_end_of s → (ends_block s ≡ true) × (last_is_commit (s ∷ []) ≡ committing)
+ended_by Commit committing e = (refl, cc)
+ended_by Rollback committing e = (refl, cc)
+ended_by s committing e = absurd cc
+
+pub neither : (s : Statement) → (s ≡ Commit → ⊥) → (s ≡ Rollback → ⊥) → ends_block s ≡ false
+neither Commit h k = absurd (h refl)
+neither Rollback h k = absurd (k refl)
+neither s h k = refl

@@ -1,8 +1,9 @@
 //! The transactions of a session, by its text alone.
 
-ghost use Rattle.std.specs.Prelude.{◌≡◌, ◌+◌, ◌<◌, ◌≤◌, ◌^◌, None, Some, IfOk, OnErr, length};
+ghost use Rattle.std.specs.Prelude.{◌≡◌, ℕ, ◌+◌, ◌<◌, ◌≤◌, ◌^◌, List, IfOk, OnErr, length, slice_index_or};
 ghost use Rattle.bf_base.specs.Lists.{part};
-ghost use Rattle.bf_check.specs.Groups.{block_end_of, groups_found};
+ghost use Rattle.bf_tree.specs.declared.statement.Statement.{Statement as Told};
+ghost use Rattle.bf_check.specs.Groups.{GroupsSo, block_end_of, groups_found};
 
 use bf_base::Memory;
 use bf_tree::Statement;
@@ -42,6 +43,45 @@ pub(crate) fn counted(index: usize) -> Result<u32, Memory>
     }
 }
 
+/// Goes on behind the statement of a number, where a block began at a statement or none is open: the transaction that
+/// ends there is entered. Where a block is open behind it.
+fn enter(
+    groups: &mut Vec<Group>,
+    began: Option<u32>,
+    number: u32,
+    statement: &Statement,
+) -> Result<Option<u32>, Memory>
+    ensures { IfOk result (λ open. (statements : List Told) (index : ℕ) → number ≡ index + 1
+        → index < length statements
+        → statement.now ≡ slice_index_or statements index statement.now
+        → GroupsSo statements index began groups.old.items
+        → GroupsSo statements (index + 1) open groups.new.items) }
+{
+    if let Some(first) = began {
+        let Some(commits) = block_end(statement) else {
+            return Ok(began);
+        };
+        groups.push(Group {
+            first,
+            last: number,
+            commits,
+        })?;
+        return Ok(None);
+    }
+    match statement {
+        Statement::Begin => Ok(Some(number)),
+        Statement::Commit | Statement::Rollback => Ok(None),
+        _ => {
+            groups.push(Group {
+                first: number,
+                last: number,
+                commits: true,
+            })?;
+            Ok(None)
+        }
+    }
+}
+
 /// The transactions of a session, in order: its blocks, from BEGIN to COMMIT, to ROLLBACK or to the end, and each
 /// statement outside a block but a COMMIT or a ROLLBACK. It takes time linear in the session.
 pub(crate) fn groups_of(alloc: Global, statements: &[Statement]) -> Result<Vec<Group>, Memory>
@@ -50,36 +90,16 @@ pub(crate) fn groups_of(alloc: Global, statements: &[Statement]) -> Result<Vec<G
     let mut groups = Vec::new(alloc);
     let mut began = None;
     for (index, statement) in statements.iter().enumerate() {
-        let number = counted(index)?;
-        match began {
-            Some(first) => {
-                if let Some(commits) = block_end(statement) {
-                    groups.push(Group {
-                        first,
-                        last: number,
-                        commits,
-                    })?;
-                    began = None;
-                }
-            }
-            None => match statement {
-                Statement::Begin => began = Some(number),
-                Statement::Commit | Statement::Rollback => {}
-                _ => groups.push(Group {
-                    first: number,
-                    last: number,
-                    commits: true,
-                })?,
-            },
-        }
+        began = enter(&mut groups, began, counted(index)?, statement)?;
     }
-    if let Some(first) = began {
-        groups.push(Group {
-            first,
-            last: counted(statements.len() - 1)?,
-            commits: false,
-        })?;
-    }
+    let Some(first) = began else {
+        return Ok(groups);
+    };
+    groups.push(Group {
+        first,
+        last: counted(statements.len() - 1)?,
+        commits: false,
+    })?;
     Ok(groups)
 }
 
