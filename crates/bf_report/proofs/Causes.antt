@@ -21,13 +21,16 @@ module _ {X Y : Type 0} (t : X → List ℕ) (f : X → Bool) (u : Y → List �
 
   made_of : (y : Y) (more : List ℕ) → BeginsSo y more → (x : X) × (y ≡ make x) × Begins t f EndsLine rest x more
   made_of y more b =
-      let found = only y more b.written in
-      (found.0, found.1, record {
-        fitting = sym (fits found.0) ∙ ap g (sym found.1) ∙ b.fitting;
-        behind_it = tt;
-        written = append_cancel_left words rest (t found.0 ++ more)
-            (sym said ∙ b.written ∙ ap (λ (z : Y). u z ++ more) found.1 ∙ writes found.0 more);
-      })
+      let found = only y more b.written in (
+        found.0,
+        found.1,
+        record {
+          fitting = sym (fits found.0) ∙ ap g (sym found.1) ∙ b.fitting;
+          behind_it = tt;
+          written = append_cancel_left words rest (t found.0 ++ more)
+              (sym said ∙ b.written ∙ ap (λ (z : Y). u z ++ more) found.1 ∙ writes found.0 more);
+        },
+      )
 
   pub none_so : Reads t f EndsLine rest None → Reads u g EndsLine text None
   none_so h = reads_none u g EndsLine text (λ y more b. unread h (made_of y more b).2)
@@ -42,9 +45,9 @@ module _ {X Y : Type 0} (t : X → List ℕ) (f : X → Bool) (u : Y → List �
         written = said ∙ ap (λ (z : List ℕ). words ++ z) begins.written ∙ sym (writes x behind);
       })
       (λ y more b.
-          let found = made_of y more b in
-          let both = read_only h found.2 in
-          (ap make both.0 ∙ sym found.1, both.1))
+      let found = made_of y more b in
+      let both = read_only h found.2 in
+      (ap make both.0 ∙ sym found.1, both.1))
 
 -- ---- causes
 

@@ -100,13 +100,14 @@ module _ (text : List ℕ) where
           running_found position rest p =
               let m = read_begins h in
               let n = read_begins u in
-              let o = read_begins p in
-              ((moved, unit, position),
-              and_from (is_u32 moved && is_u8 unit) (is_u32 position) (and_from (is_u32 moved) (is_u8 unit) m.fitting n.fitting) o.fitting,
-              m.written ∙ ap (λ (z : List ℕ). worded (codes " moved ") moved ++ z)
-              (said ∙ ap (λ (z : List ℕ). codes " next unit " ++ z)
-              (n.written ∙ ap (λ (z : List ℕ). decimal unit ++ z) (told ∙ ap (λ (z : List ℕ). codes " position " ++ z) o.written)))
-              ∙ sym (regrouped (moved, unit, position) rest))
+              let o = read_begins p in (
+                (moved, unit, position),
+                and_from (is_u32 moved && is_u8 unit) (is_u32 position) (and_from (is_u32 moved) (is_u8 unit) m.fitting n.fitting) o.fitting,
+                m.written ∙ ap (λ (z : List ℕ). worded (codes " moved ") moved ++ z)
+                    (said ∙ ap (λ (z : List ℕ). codes " next unit " ++ z)
+                    (n.written ∙ ap (λ (z : List ℕ). decimal unit ++ z) (told ∙ ap (λ (z : List ℕ). codes " position " ++ z) o.written)))
+                    ∙ sym (regrouped (moved, unit, position) rest),
+              )
 
 -- ---- the last migration
 
@@ -168,9 +169,11 @@ module _ (text : List ℕ) where
         complete_found None none = λ s rest fit written. complete_only none s rest fit written (same_behind s rest fit written)
         complete_found (Some (moved, rest)) k =
             let first = read_begins h in
-            let last = read_begins k in
-            (sweep.Complete m moved, and_from (is_u32 m) (is_u32 moved) first.fitting last.fitting,
-            first.written ∙ ap (λ (z : List ℕ). decimal m ++ z) (said ∙ ap (λ (z : List ℕ). codes " complete " ++ z) last.written) ∙ simp append_assoc)
+            let last = read_begins k in (
+              sweep.Complete m moved,
+              and_from (is_u32 m) (is_u32 moved) first.fitting last.fitting,
+              first.written ∙ ap (λ (z : List ℕ). decimal m ++ z) (said ∙ ap (λ (z : List ℕ). codes " complete " ++ z) last.written) ∙ simp append_assoc,
+            )
 
       -- ---- on its way
       module _ (complete_not : IsBehind (codes " complete ") behind None) where
@@ -190,11 +193,12 @@ module _ (text : List ℕ) where
         on_its_way (Some rest) (run, fit, written) =
             let first = read_begins h in
             let three = and_parts (is_u32 run.0 && is_u8 run.1) (is_u32 run.2) fit in
-            let two = and_parts (is_u32 run.0) (is_u8 run.1) three.0 in
-            (sweep.Running m run.0 run.1 run.2,
-            and_from (is_u32 m && is_u32 run.0 && is_u8 run.1) (is_u32 run.2)
-            (and_from (is_u32 m && is_u32 run.0) (is_u8 run.1) (and_from (is_u32 m) (is_u32 run.0) first.fitting two.0) two.1) three.1,
-            first.written ∙ ap (λ (z : List ℕ). decimal m ++ z) written ∙ sym (running_is m run.0 run.1 run.2 rest))
+            let two = and_parts (is_u32 run.0) (is_u8 run.1) three.0 in (
+              sweep.Running m run.0 run.1 run.2,
+              and_from (is_u32 m && is_u32 run.0 && is_u8 run.1) (is_u32 run.2)
+                  (and_from (is_u32 m && is_u32 run.0) (is_u8 run.1) (and_from (is_u32 m) (is_u32 run.0) first.fitting two.0) two.1) three.1,
+              first.written ∙ ap (λ (z : List ℕ). decimal m ++ z) written ∙ sym (running_is m run.0 run.1 run.2 rest),
+            )
 
 -- ---- the last line
 

@@ -127,8 +127,8 @@ module _ (k : ℕ) (text : List ℕ) where
                     ∙ sym (regrouped (told o) rest);
               })
               (λ other more at.
-                  let s_same = (read_only h (session_of other more at)).0 in
-                  let f_same = (read_only f (first_of other more at)).0 in
-                  let l_same = (read_only l (last_of other more at)).0 in
-                  let o_same = read_only h_o (outcome_of other more at) in
-                  (λ i. record { session = s_same i; first = f_same i; last = l_same i; outcome = o_same.0 i }, o_same.1))
+              let s_same = (read_only h (session_of other more at)).0 in
+              let f_same = (read_only f (first_of other more at)).0 in
+              let l_same = (read_only l (last_of other more at)).0 in
+              let o_same = read_only h_o (outcome_of other more at) in
+              (λ i. record { session = s_same i; first = f_same i; last = l_same i; outcome = o_same.0 i }, o_same.1))

@@ -19,9 +19,12 @@ module _ {X : Type 0} (text : X → List ℕ) (fits : X → Bool) (Ends : X → 
 
   pub reads_some : (x : X) (rest : List ℕ) → Begins text fits Ends bytes x rest
       → ((y : X) (more : List ℕ) → Begins text fits Ends bytes y more → (x ≡ y) × (rest ≡ more)) → Reads text fits Ends bytes (Some (x, rest))
-  reads_some x rest begins only = record { exact = λ y more. (
+  reads_some x rest begins only = record {
+    exact = λ y more. (
       λ e. subst (λ (p : X × List ℕ). Begins text fits Ends bytes p.0 p.1) (same_Some (x, rest) (y, more) e) begins,
-      λ b. let both = only y more b in ap₂ (λ (z : X) (r : List ℕ). Some (z, r)) both.0 both.1) }
+      λ b. let both = only y more b in ap₂ (λ (z : X) (r : List ℕ). Some (z, r)) both.0 both.1,
+    );
+  }
 
 module _ {X : Type 0} {text : X → List ℕ} {fits : X → Bool} {Ends : X → List ℕ → Type 0} {bytes : List ℕ} where
   -- what was read stands there
@@ -44,9 +47,12 @@ module _ {X : Type 0} (text : X → List ℕ) (fits : X → Bool) (Ends : X → 
 
   pub passes_some : (x : X) (rest : List ℕ) → Begins text fits Ends bytes x rest
       → ((y : X) (more : List ℕ) → Begins text fits Ends bytes y more → rest ≡ more) → Passes text fits Ends bytes (Some rest)
-  passes_some x rest begins only = record { exact = λ more. (
+  passes_some x rest begins only = record {
+    exact = λ more. (
       λ e. (x, subst (λ (r : List ℕ). Begins text fits Ends bytes x r) (same_Some rest more e) begins),
-      λ w. ap (λ (r : List ℕ). Some r) (only w.0 more w.1)) }
+      λ w. ap (λ (r : List ℕ). Some r) (only w.0 more w.1),
+    );
+  }
 
 module _ {X : Type 0} {text : X → List ℕ} {fits : X → Bool} {Ends : X → List ℕ → Type 0} {bytes : List ℕ} where
   pub pass_begins : {rest : List ℕ} → Passes text fits Ends bytes (Some rest) → (x : X) × Begins text fits Ends bytes x rest
@@ -173,7 +179,7 @@ module _ {X : Type 0} (t : X → List ℕ) (f : X → Bool) (E : X → List ℕ 
         written = begins.written ∙ ap (λ (z : List ℕ). t x ++ z) said ∙ sym (append_assoc (t x) words rest);
       })
       (λ y more b.
-          let both = read_only h (before_words y more b) in (both.0, append_cancel_left words rest more (sym said ∙ both.1)))
+      let both = read_only h (before_words y more b) in (both.0, append_cancel_left words rest more (sym said ∙ both.1)))
 
 -- ---- the same thing as another
 

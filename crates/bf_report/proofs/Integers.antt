@@ -16,8 +16,8 @@ use Rattle.bf_report.proofs.Numerals.{number_read}
 pub first_digit : (n b : ℕ) (more t : List ℕ) → n < 2 ^ 64 → ends is_digit more → decimal n ++ more ≡ b ∷ t → is_digit b ≡ false → ⊥
 first_digit n b more t room ended e none =
     let zero_read : Some n ≡ Some 0 =
-        sym (number_read n more room ended) ∙ ap (λ (z : List ℕ). number_behind 0 z) e
-        ∙ ap (λ (s : Bool). if s then option_and_then (λ v. number_behind v t) (number_with 0 (b - 48)) else Some 0) none in
+    sym (number_read n more room ended) ∙ ap (λ (z : List ℕ). number_behind 0 z) e
+    ∙ ap (λ (s : Bool). if s then option_and_then (λ v. number_behind v t) (number_with 0 (b - 48)) else Some 0) none in
     let is_zero : n ≡ 0 = same_Some n 0 zero_read in
     let first : 48 ∷ more ≡ b ∷ t = ap (λ (z : List ℕ). z ++ more) (sym (decimal_digit 0 (omega arith))) ∙ ap (λ (m : ℕ). decimal m ++ more) (sym is_zero) ∙ e in
     both_ways (is_digit b) none (ap (λ (z : List ℕ). is_digit (get_or z 0 0)) (sym first))
@@ -68,12 +68,15 @@ module _ (text magnitude : List ℕ) (minus : text ≡ 45 ∷ magnitude) where
       let small = ltb-true n (2 ^ 63) b.fitting in
       absurd (first_digit n 45 rest magnitude (omega arith) b.behind_it (sym b.written ∙ minus) refl)
   magnitude_of (negsuc n) rest b =
-      let small = ltb-true n (2 ^ 63) b.fitting in
-      (n, refl, record {
-        fitting = le-leb (suc n) 9223372036854775808 (omega arith);
-        behind_it = b.behind_it;
-        written = ap (drop 1) (sym minus ∙ b.written);
-      })
+      let small = ltb-true n (2 ^ 63) b.fitting in (
+        n,
+        refl,
+        record {
+          fitting = le-leb (suc n) 9223372036854775808 (omega arith);
+          behind_it = b.behind_it;
+          written = ap (drop 1) (sym minus ∙ b.written);
+        },
+      )
 
   pub minus_none : ReadsMagnitude None → PassesInt text None
   minus_none h = passes_none signed_decimal is_i64 EndsInt text (λ z rest b. unread h (magnitude_of z rest b).2)

@@ -148,12 +148,16 @@ module _ (or_none : Bool) (end : List ℕ) (is_end : IsEnd end) where
   goes_on rest further comma [] more b = absurd (no_comma end is_end more (32 ∷ further) (sym b.written ∙ comma))
   goes_on rest further comma (c ∷ cs) more b =
       let parts = and_parts (item_has_room or_none c) (items_have_room or_none cs) b.fitting in
-      let behind = behind_value cs more in
-      (c, cs, record {
-        fitting = parts.0;
-        behind_it = ends_cell c (closed_further end cs ++ more) behind.0 behind.1;
-        written = ap (drop 2) (sym comma ∙ b.written ∙ further_more c cs more);
-      }, parts.1)
+      let behind = behind_value cs more in (
+        c,
+        cs,
+        record {
+          fitting = parts.0;
+          behind_it = ends_cell c (closed_further end cs ++ more) behind.0 behind.1;
+          written = ap (drop 2) (sym comma ∙ b.written ∙ further_more c cs more);
+        },
+        parts.1,
+      )
 
   pub no_item : (text rest further : List ℕ) → Continues or_none end text rest → rest ≡ codes ", " ++ further → PassesItem or_none further None → PassesFurther text None
   no_item text rest further h comma none =
@@ -164,9 +168,9 @@ module _ (or_none : Bool) (end : List ℕ) (is_end : IsEnd end) where
   one_more passed c rest =
       let comma : List ℕ → List ℕ = λ y. codes ", " ++ y in
       let last : flat_map comma (map cell_text (passed ++ c ∷ [])) ≡ further_text passed ++ (codes ", " ++ cell_text c) =
-          ap (flat_map comma) (map-append cell_text passed (c ∷ []))
-          ∙ flat_map-append comma (map cell_text passed) (cell_text c ∷ [])
-          ∙ ap (λ (z : List ℕ). further_text passed ++ z) (append-nil (codes ", " ++ cell_text c)) in
+      ap (flat_map comma) (map-append cell_text passed (c ∷ []))
+      ∙ flat_map-append comma (map cell_text passed) (cell_text c ∷ [])
+      ∙ ap (λ (z : List ℕ). further_text passed ++ z) (append-nil (codes ", " ++ cell_text c)) in
       sym (append_assoc (further_text passed) (codes ", " ++ cell_text c) rest) ∙ ap (λ (z : List ℕ). z ++ rest) (sym last)
 
   pub next_item : (text rest further behind : List ℕ) → Continues or_none end text rest → rest ≡ codes ", " ++ further → PassesItem or_none further (Some behind)
@@ -247,13 +251,17 @@ module _ (or_none : Bool) (end : List ℕ) (is_end : IsEnd end) where
   first_value text none [] more b = absurd (none more b.written)
   first_value text none (c ∷ cs) more b =
       let parts = and_parts (item_has_room or_none c) (items_have_room or_none cs) b.fitting in
-      let behind = behind_value cs more in
-      (c, cs, record {
-        fitting = parts.0;
-        behind_it = ends_cell c (closed_further end cs ++ more) behind.0 behind.1;
-        written = b.written ∙ ap (λ (z : List ℕ). z ++ more) (append_assoc (cell_text c) (further_text cs) end)
-            ∙ append_assoc (cell_text c) (closed_further end cs) more;
-      }, parts.1)
+      let behind = behind_value cs more in (
+        c,
+        cs,
+        record {
+          fitting = parts.0;
+          behind_it = ends_cell c (closed_further end cs ++ more) behind.0 behind.1;
+          written = b.written ∙ ap (λ (z : List ℕ). z ++ more) (append_assoc (cell_text c) (further_text cs) end)
+              ∙ append_assoc (cell_text c) (closed_further end cs) more;
+        },
+        parts.1,
+      )
 
   only_none : (text rest : List ℕ) → text ≡ end ++ rest → (cs : List Cell) (more : List ℕ) → BeginsAll text cs more → rest ≡ more
   only_none text rest written [] more b = append_cancel_left end rest more (sym written ∙ b.written)
@@ -261,8 +269,8 @@ module _ (or_none : Bool) (end : List ℕ) (is_end : IsEnd end) where
       let parts = and_parts (item_has_room or_none c) (items_have_room or_none cs) b.fitting in
       let behind = behind_value cs more in
       let regrouped : text ≡ cell_text c ++ (closed_further end cs ++ more) =
-          b.written ∙ ap (λ (z : List ℕ). z ++ more) (append_assoc (cell_text c) (further_text cs) end)
-          ∙ append_assoc (cell_text c) (closed_further end cs) more in
+      b.written ∙ ap (λ (z : List ℕ). z ++ more) (append_assoc (cell_text c) (further_text cs) end)
+      ∙ append_assoc (cell_text c) (closed_further end cs) more in
       absurd (cell_no_end end is_end c (closed_further end cs ++ more) rest parts.0
       (ends_cell c (closed_further end cs ++ more) behind.0 behind.1) (sym regrouped ∙ written))
 

@@ -118,9 +118,9 @@ module _ (words text : List ℕ) (part : IsTrue (part_name words)) where
                 ∙ sym (regrouped name n rest);
           })
           (λ t more b.
-              let one = (read_only h (name_of t more b)).0 in
-              let other = read_only k (number_of t more b) in
-              (λ i. (one i, other.0 i), other.1))
+          let one = (read_only h (name_of t more b)).0 in
+          let other = read_only k (number_of t more b) in
+          (λ i. (one i, other.0 i), other.1))
 
 -- ---- two numbers
 
@@ -175,9 +175,9 @@ module _ (text : List ℕ) where
                 ∙ sym (two_regrouped m n rest);
           })
           (λ t more b.
-              let one = (read_only h (first_of t more b)).0 in
-              let other = read_only k (second_of t more b) in
-              (λ i. (one i, other.0 i), other.1))
+          let one = (read_only h (first_of t more b)).0 in
+          let other = read_only k (second_of t more b) in
+          (λ i. (one i, other.0 i), other.1))
 
 -- ---- the values of a key
 
@@ -227,7 +227,9 @@ pub key_ended : (text between : List ℕ) (r : Option (List ℕ)) → PassesKey 
 key_ended text between None h last = λ key rest fit written. last rest (pass_only h (key_first text key rest fit written))
 key_ended text between (Some rest) h last =
     let found = pass_begins h in
-    let key = cells_back found.0 found.1.fitting in
-    (key.0, sym (cells_fit key.0) ∙ ap (items_have_room false) key.1 ∙ found.1.fitting,
-    found.1.written ∙ ap (λ (z : List Cell). closed (codes ")") z ++ between) (sym key.1)
-    ∙ ap (λ (z : List ℕ). closed (codes ")") (cells_of key.0) ++ z) last ∙ sym (key_regrouped key.0 rest))
+    let key = cells_back found.0 found.1.fitting in (
+      key.0,
+      sym (cells_fit key.0) ∙ ap (items_have_room false) key.1 ∙ found.1.fitting,
+      found.1.written ∙ ap (λ (z : List Cell). closed (codes ")") z ++ between) (sym key.1)
+          ∙ ap (λ (z : List ℕ). closed (codes ")") (cells_of key.0) ++ z) last ∙ sym (key_regrouped key.0 rest),
+    )

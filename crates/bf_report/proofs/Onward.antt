@@ -34,7 +34,7 @@ same_table : (text rest : List ℕ) (t u : List ℕ × ℕ) → ReadsTable text 
 same_table text rest t u h room same =
     let begins = read_begins h in
     let other : Begins table_line table_fits EndsLine text u rest =
-        record { fitting = room; behind_it = tt; written = begins.written ∙ ap (λ (z : List ℕ). z ++ rest) same } in
+    record { fitting = room; behind_it = tt; written = begins.written ∙ ap (λ (z : List ℕ). z ++ rest) same } in
     (read_only h other).0
 
 -- tables behind a name: the first of them, and those behind its name
@@ -75,7 +75,7 @@ module _ (script : Script) (bytes : List ℕ) where
   same_entry k text rest e d h room same =
       let begins = read_begins h in
       let other : Begins (entry_text k) entry_has_room EndsLine text d rest =
-          record { fitting = room; behind_it = tt; written = begins.written ∙ ap (λ (z : List ℕ). z ++ rest) same } in
+      record { fitting = room; behind_it = tt; written = begins.written ∙ ap (λ (z : List ℕ). z ++ rest) same } in
       (read_only h other).0
 
   open_entry : (k c : ℕ) (text rest : List ℕ) (e : Entry) → Reads (entry_text k) entry_has_room EndsLine text (Some (e, rest)) → (other : List ℕ)
@@ -85,7 +85,7 @@ module _ (script : Script) (bytes : List ℕ) where
   open_entry k c text rest e h other (d ∷ ds, last, rooms, written, goes) =
       let parts = and_parts (entry_has_room d) (list_all entry_has_room ds) rooms in
       let both = lines_same (entry_text k e) (entry_text k d) other (texts_from entry_text (k + 1) ds ++ last) (entry_is_line k e) (entry_is_line k d)
-          (written ∙ append_assoc (entry_text k d) (texts_from entry_text (k + 1) ds) last) in
+      (written ∙ append_assoc (entry_text k d) (texts_from entry_text (k + 1) ds) last) in
       let same = same_entry k text rest e d h parts.0 both.0 in
       let size : commit_of e.outcome ≡ commit_of d.outcome = ap (λ (x : Entry). commit_of x.outcome) same in
       let counted : c + (commit_of d.outcome + commits_of ds) ≡ (c + commit_of e.outcome) + commits_of ds = omega arith in
@@ -94,10 +94,13 @@ module _ (script : Script) (bytes : List ℕ) where
   close_entry : (k c : ℕ) (e : Entry) → IsTrue (entry_has_room e) → (other : List ℕ) → GoesEntries (k + 1) (c + commit_of e.outcome) other
       → GoesEntries k c (entry_text k e ++ other)
   close_entry k c e room other (ds, last, rooms, written, goes) =
-      let counted : (c + commit_of e.outcome) + commits_of ds ≡ c + (commit_of e.outcome + commits_of ds) = omega arith in
-      (e ∷ ds, last, and_from (entry_has_room e) (list_all entry_has_room ds) room rooms,
-      ap (λ (z : List ℕ). entry_text k e ++ z) written ∙ sym (append_assoc (entry_text k e) (texts_from entry_text (k + 1) ds) last),
-      subst (λ (n : ℕ). GoesTables [] n last) counted goes)
+      let counted : (c + commit_of e.outcome) + commits_of ds ≡ c + (commit_of e.outcome + commits_of ds) = omega arith in (
+        e ∷ ds,
+        last,
+        and_from (entry_has_room e) (list_all entry_has_room ds) room rooms,
+        ap (λ (z : List ℕ). entry_text k e ++ z) written ∙ sym (append_assoc (entry_text k e) (texts_from entry_text (k + 1) ds) last),
+        subst (λ (n : ℕ). GoesTables [] n last) counted goes,
+      )
 
   pub entry_step : (k c : ℕ) (text : List ℕ) (e : Entry) (rest : List ℕ) → Stands script (GoesEntries k c) bytes text
       → Reads (entry_text k) entry_has_room EndsLine text (Some (e, rest)) → Stands script (GoesEntries (k + 1) (c + commit_of e.outcome)) bytes rest
@@ -113,7 +116,7 @@ module _ (script : Script) (bytes : List ℕ) where
       subst (λ (z : List ℕ). GoesTables [] c z) (sym written) (subst (λ (n : ℕ). GoesTables [] n last) counted goes)
   past_entries k c text h other share (d ∷ ds, last, rooms, written, goes) =
       let more = shared_back text other (entry_text k d) (texts_from entry_text (k + 1) ds ++ last) share (entry_is_line k d)
-          (written ∙ append_assoc (entry_text k d) (texts_from entry_text (k + 1) ds) last) in
+      (written ∙ append_assoc (entry_text k d) (texts_from entry_text (k + 1) ds) last) in
       absurd (unread h (record { fitting = (and_parts (entry_has_room d) (list_all entry_has_room ds) rooms).0; behind_it = tt; written = more.1 }))
 
   no_more_entries : (k c : ℕ) (other : List ℕ) → GoesTables [] c other → GoesEntries k c other
@@ -136,15 +139,19 @@ module _ (script : Script) (bytes : List ℕ) where
       let begins = read_begins h in
       let parts = followed before u us fits in
       let both = lines_same (table_line t) (table_line u) other (flat_map table_line us ++ last) (table_is_line t begins.fitting) (table_is_line u parts.0)
-          (written ∙ append_assoc (table_line u) (flat_map table_line us) last) in
+      (written ∙ append_assoc (table_line u) (flat_map table_line us) last) in
       let same = same_table text rest t u h parts.0 both.0 in
       (us, last, subst (λ (x : List ℕ × ℕ). IsTrue (follow x.0 us)) (sym same) parts.2, both.1, goes)
 
   close_table : (before : List ℕ) (c : ℕ) (t : List ℕ × ℕ) → IsTrue (table_fits t) → IsTrue (is_lt (name_cmp before t.0)) → (other : List ℕ)
       → GoesTables t.0 c other → GoesTables before c (table_line t ++ other)
-  close_table before c t fit less other (us, last, fits, written, goes) =
-      (t ∷ us, last, follows before t us fit less fits,
-      ap (λ (z : List ℕ). table_line t ++ z) written ∙ sym (append_assoc (table_line t) (flat_map table_line us) last), goes)
+  close_table before c t fit less other (us, last, fits, written, goes) = (
+    t ∷ us,
+    last,
+    follows before t us fit less fits,
+    ap (λ (z : List ℕ). table_line t ++ z) written ∙ sym (append_assoc (table_line t) (flat_map table_line us) last),
+    goes,
+  )
 
   pub table_step : (before : List ℕ) (c : ℕ) (text : List ℕ) (t : List ℕ × ℕ) (rest : List ℕ) → IsTrue (is_lt (name_cmp before t.0))
       → Stands script (GoesTables before c) bytes text → ReadsTable text (Some (t, rest)) → Stands script (GoesTables t.0 c) bytes rest
@@ -159,7 +166,7 @@ module _ (script : Script) (bytes : List ℕ) where
   past_tables before c text none other share (t ∷ ts, last, fits, written, goes) =
       let parts = followed before t ts fits in
       let more = shared_back text other (table_line t) (flat_map table_line ts ++ last) share (table_is_line t parts.0)
-          (written ∙ append_assoc (table_line t) (flat_map table_line ts) last) in
+      (written ∙ append_assoc (table_line t) (flat_map table_line ts) last) in
       absurd (not_first before text t more.0 none parts.0 parts.1 more.1)
 
   pub tables_done : (before : List ℕ) (c : ℕ) (text : List ℕ) → NoTable before text → Stands script (GoesTables before c) bytes text

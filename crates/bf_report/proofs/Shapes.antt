@@ -103,35 +103,88 @@ abbrev pub Makes : Form → Type 0
 Makes form = (t : Told) → IsTrue (tail_fits form.1 t) → (r : Reply) × IsTrue (plain_fits r) × (plain_text r ≡ form_text form.0 form.1 t)
 
 pub all_make : AllByRecursion Makes forms
-all_make =
-    (λ t h. (reply.Inserted t.number, h, refl),
-    (λ t h. (reply.Updated t.number, h, refl),
-    (λ t h. (reply.Deleted t.number, h, refl),
-    (λ t h. (reply.Committed t.number, h, refl),
-    (λ t h. (reply.Begun, refl, refl),
-    (λ t h. (reply.RolledBack, refl, refl),
-    (λ t h. (reply.Created, refl, refl),
-    (λ t h. (reply.Migrated t.number, h, refl),
-    (λ t h. (reply.Refused (refusal.NoTable t.name), name_alone (is_name t.name) ∙ h, append_assoc (codes "E1 no table ") t.name newline),
-    (λ t h. (reply.Refused (refusal.NoColumn t.name), name_alone (is_name t.name) ∙ h, append_assoc (codes "E2 no column ") t.name newline),
-    (λ t h. (reply.Refused refusal.TypeMismatch, refl, refl),
-    (λ t h. (reply.Refused (refusal.DuplicateKey t.key), h, key_end t.key),
-    (λ t h. (reply.Refused refusal.OutOfRange, refl, refl),
-    (λ t h. (reply.Refused refusal.TooLong, refl, refl),
-    (λ t h. (reply.Refused (refusal.TableExists t.name), name_alone (is_name t.name) ∙ h, append_assoc (codes "E7 table exists ") t.name newline),
-    (λ t h. (reply.Refused refusal.WrongCount, refl, refl),
-    (λ t h. (reply.Refused (refusal.KeyColumn t.name), name_alone (is_name t.name) ∙ h, append_assoc (codes "E9 key column ") t.name newline),
-    (λ t h. (reply.Refused refusal.NoTransaction, refl, refl),
-    (λ t h. (reply.Refused refusal.InTransaction, refl, refl),
-    (λ t h. (reply.Refused refusal.MustBeAlone, refl, refl),
-    (λ t h. (reply.Refused (refusal.NameTwice t.name), name_alone (is_name t.name) ∙ h, append_assoc (codes "E13 name twice ") t.name newline),
-    (λ t h. (reply.Refused (refusal.MayFail t.name t.number), name_first (is_name t.name) (is_u32 t.number) ∙ h, named_end (codes "E14 may fail ") t.name (codes " item ") t.number),
-    (λ t h. (reply.Refused (refusal.KeyNotInherited t.name), name_alone (is_name t.name) ∙ h, append_assoc (codes "E15 key not inherited ") t.name newline),
-    (λ t h. (reply.Refused (refusal.SourceUnknown t.name), name_alone (is_name t.name) ∙ h, append_assoc (codes "E16 source unknown ") t.name newline),
-    (λ t h. (reply.Refused (refusal.TooManyRows t.name t.number), name_first (is_name t.name) (is_u32 t.number) ∙ h, named_end (codes "E17 too many rows ") t.name (codes " ") t.number),
-    (λ t h. (reply.Refused (refusal.UnitLimit t.number), h, refl),
-    (λ t h. (reply.Refused (refusal.IndexExists t.name), name_alone (is_name t.name) ∙ h, append_assoc (codes "E19 index exists ") t.name newline),
-    tt)))))))))))))))))))))))))))
+all_make = (
+  λ t h. (reply.Inserted t.number, h, refl),
+  (
+    λ t h. (reply.Updated t.number, h, refl),
+    (
+      λ t h. (reply.Deleted t.number, h, refl),
+      (
+        λ t h. (reply.Committed t.number, h, refl),
+        (
+          λ t h. (reply.Begun, refl, refl),
+          (
+            λ t h. (reply.RolledBack, refl, refl),
+            (
+              λ t h. (reply.Created, refl, refl),
+              (
+                λ t h. (reply.Migrated t.number, h, refl),
+                (
+                  λ t h. (reply.Refused (refusal.NoTable t.name), name_alone (is_name t.name) ∙ h, append_assoc (codes "E1 no table ") t.name newline),
+                  (
+                    λ t h. (reply.Refused (refusal.NoColumn t.name), name_alone (is_name t.name) ∙ h, append_assoc (codes "E2 no column ") t.name newline),
+                    (
+                      λ t h. (reply.Refused refusal.TypeMismatch, refl, refl),
+                      (
+                        λ t h. (reply.Refused (refusal.DuplicateKey t.key), h, key_end t.key),
+                        (
+                          λ t h. (reply.Refused refusal.OutOfRange, refl, refl),
+                          (
+                            λ t h. (reply.Refused refusal.TooLong, refl, refl),
+                            (
+                              λ t h. (reply.Refused (refusal.TableExists t.name), name_alone (is_name t.name) ∙ h, append_assoc (codes "E7 table exists ") t.name newline),
+                              (
+                                λ t h. (reply.Refused refusal.WrongCount, refl, refl),
+                                (
+                                  λ t h. (reply.Refused (refusal.KeyColumn t.name), name_alone (is_name t.name) ∙ h, append_assoc (codes "E9 key column ") t.name newline),
+                                  (
+                                    λ t h. (reply.Refused refusal.NoTransaction, refl, refl),
+                                    (
+                                      λ t h. (reply.Refused refusal.InTransaction, refl, refl),
+                                      (
+                                        λ t h. (reply.Refused refusal.MustBeAlone, refl, refl),
+                                        (
+                                          λ t h. (reply.Refused (refusal.NameTwice t.name), name_alone (is_name t.name) ∙ h, append_assoc (codes "E13 name twice ") t.name newline),
+                                          (
+                                            λ t h. (reply.Refused (refusal.MayFail t.name t.number), name_first (is_name t.name) (is_u32 t.number) ∙ h, named_end (codes "E14 may fail ") t.name (codes " item ") t.number),
+                                            (
+                                              λ t h. (reply.Refused (refusal.KeyNotInherited t.name), name_alone (is_name t.name) ∙ h, append_assoc (codes "E15 key not inherited ") t.name newline),
+                                              (
+                                                λ t h. (reply.Refused (refusal.SourceUnknown t.name), name_alone (is_name t.name) ∙ h, append_assoc (codes "E16 source unknown ") t.name newline),
+                                                (
+                                                  λ t h. (reply.Refused (refusal.TooManyRows t.name t.number), name_first (is_name t.name) (is_u32 t.number) ∙ h, named_end (codes "E17 too many rows ") t.name (codes " ") t.number),
+                                                  (
+                                                    λ t h. (reply.Refused (refusal.UnitLimit t.number), h, refl),
+                                                    (
+                                                      λ t h. (reply.Refused (refusal.IndexExists t.name), name_alone (is_name t.name) ∙ h, append_assoc (codes "E19 index exists ") t.name newline),
+                                                      tt,
+                                                    ),
+                                                  ),
+                                                ),
+                                              ),
+                                            ),
+                                          ),
+                                        ),
+                                      ),
+                                    ),
+                                  ),
+                                ),
+                              ),
+                            ),
+                          ),
+                        ),
+                      ),
+                    ),
+                  ),
+                ),
+              ),
+            ),
+          ),
+        ),
+      ),
+    ),
+  ),
+)
 
 -- a reply is of a form
 abbrev pub OneOf : (Form → Type 0) → List Form → Type 0
@@ -199,7 +252,7 @@ pub one_further : (text : List ℕ) (i : ℕ) (words : List ℕ) (end : Tail) �
     → Finds (form_text words end) (tail_fits end) text None → BeginsOne text (drop i forms) → BeginsOne text (drop (i + 1) forms)
 one_further text i words end below at none h =
     let split : drop i forms ≡ (words, end) ∷ drop (i + 1) forms =
-        drop_more forms i (words, end) below ∙ ap (λ (z : Form). z ∷ drop (i + 1) forms) (sym at) in
+    drop_more forms i (words, end) below ∙ ap (λ (z : Form). z ∷ drop (i + 1) forms) (sym at) in
     behind_first text words end (drop (i + 1) forms) none (subst (λ (z : List Form). BeginsOne text z) split h)
 
 makes_at : (fs : List Form) (i : ℕ) (form : Form) → AllByRecursion Makes fs → i < length fs → Makes (get_or fs i form)

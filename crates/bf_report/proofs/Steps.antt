@@ -105,16 +105,20 @@ module _ (script : Script) (bytes : List ℕ) (s n : ℕ) (places : List At) whe
 
   close_head : (head : Head) → IsTrue (head_fits head) → (other : List ℕ) → Rows (rows_behind head) other → Replies (head_text s n head ++ other)
   close_head head h other (rows, rest, counted, rooms, written, goes) =
-      let joined = join_reply head rows h (sym counted) rooms in
-      (joined.whole, rest, joined.fits,
-      ap (λ (z : List ℕ). head_text s n head ++ z) written ∙ sym (append_assoc (head_text s n head) (flat_map (row_line s n) rows) rest)
-      ∙ ap (λ (z : List ℕ). z ++ rest) (joined.text s n), goes)
+      let joined = join_reply head rows h (sym counted) rooms in (
+        joined.whole,
+        rest,
+        joined.fits,
+        ap (λ (z : List ℕ). head_text s n head ++ z) written ∙ sym (append_assoc (head_text s n head) (flat_map (row_line s n) rows) rest)
+            ∙ ap (λ (z : List ℕ). z ++ rest) (joined.text s n),
+        goes,
+      )
 
   open_head : (head : Head) → IsTrue (head_fits head) → (other : List ℕ) → Replies (head_text s n head ++ other) → Rows (rows_behind head) other
   open_head head h other (r, rest, fits, written, goes) =
       let split = split_reply r fits in
       let both = lines_same (head_text s n head) (head_text s n split.head) other (flat_map (row_line s n) split.rows ++ rest)
-          (head_is_line s n head h) (head_is_line s n split.head split.head_room) (written ∙ text_is r split rest) in
+      (head_is_line s n head h) (head_is_line s n split.head split.head_room) (written ∙ text_is r split rest) in
       let bodies = append_cancel_left (place_text s n ++ codes " ") (head_body head) (head_body split.head) both.0 in
       (split.rows, rest, sym split.counted ∙ sym (same_rows head split.head h split.head_room bodies), split.rows_room, both.1, goes)
 
@@ -129,7 +133,7 @@ module _ (script : Script) (bytes : List ℕ) (s n : ℕ) (places : List At) whe
   no_head text none other share (r, rest, fits, written, goes) =
       let split = split_reply r fits in
       let more = shared_back text other (head_text s n split.head) (flat_map (row_line s n) split.rows ++ rest) share
-          (head_is_line s n split.head split.head_room) (written ∙ text_is r split rest) in
+      (head_is_line s n split.head split.head_room) (written ∙ text_is r split rest) in
       none split.head more.0 split.head_room more.1
 
   -- ---- rows
@@ -147,9 +151,13 @@ module _ (script : Script) (bytes : List ℕ) (s n : ℕ) (places : List At) whe
       → (row : List Cell) × (rest : List ℕ) × IsTrue (row_has_room row) × (text ≡ row_line s n row ++ rest) × Rows count rest
   first_row count text ([], rest, counted, rooms, written, goes) = absurd (omega arith)
   first_row count text (row ∷ rows, rest, counted, rooms, written, goes) =
-      let parts = and_parts (row_has_room row) (list_all row_has_room rows) rooms in
-      (row, flat_map (row_line s n) rows ++ rest, parts.0, written ∙ append_assoc (row_line s n row) (flat_map (row_line s n) rows) rest,
-      (rows, rest, omega arith, parts.1, refl, goes))
+      let parts = and_parts (row_has_room row) (list_all row_has_room rows) rooms in (
+        row,
+        flat_map (row_line s n) rows ++ rest,
+        parts.0,
+        written ∙ append_assoc (row_line s n row) (flat_map (row_line s n) rows) rest,
+        (rows, rest, omega arith, parts.1, refl, goes),
+      )
 
   open_row : (count : ℕ) (row : List Cell) → IsTrue (row_has_room row) → (other : List ℕ) → Rows (suc count) (row_line s n row ++ other) → Rows count other
   open_row count row h other goes =
@@ -158,9 +166,14 @@ module _ (script : Script) (bytes : List ℕ) (s n : ℕ) (places : List At) whe
       subst (λ (z : List ℕ). Rows count z) (sym both.1) first.4
 
   close_row : (count : ℕ) (row : List Cell) → IsTrue (row_has_room row) → (other : List ℕ) → Rows count other → Rows (suc count) (row_line s n row ++ other)
-  close_row count row h other (rows, rest, counted, rooms, written, goes) =
-      (row ∷ rows, rest, omega arith, and_from (row_has_room row) (list_all row_has_room rows) h rooms,
-      ap (λ (z : List ℕ). row_line s n row ++ z) written ∙ sym (append_assoc (row_line s n row) (flat_map (row_line s n) rows) rest), goes)
+  close_row count row h other (rows, rest, counted, rooms, written, goes) = (
+    row ∷ rows,
+    rest,
+    omega arith,
+    and_from (row_has_room row) (list_all row_has_room rows) h rooms,
+    ap (λ (z : List ℕ). row_line s n row ++ z) written ∙ sym (append_assoc (row_line s n row) (flat_map (row_line s n) rows) rest),
+    goes,
+  )
 
   pub row_step : (count left : ℕ) (text rest : List ℕ) → left ≡ suc count → Stands script (Rows left) bytes text
       → Finds (row_line s n) row_has_room text (Some rest) → Stands script (Rows count) bytes rest
@@ -216,4 +229,3 @@ row_stop script bytes text s n places at count left more e stands none =
     let some = some_rows (suc count) (s, n) places in
     let now = subst (λ (m : ℕ). Stands script (GoesRows m (s, n) places) bytes text) more stands in
     stopped_at script (GoesRows (suc count) (s, n) places) bytes text now at e some.0 some.1 (no_row script bytes s n places count text none)
-

@@ -118,10 +118,12 @@ module _ (s n : ℕ) (text : List ℕ) (count : ℕ) (behind : List ℕ) (head :
       → IfOk r (λ x. (rows : List (List Cell)) × (length rows ≡ count) × IsTrue (list_all row_has_room rows) × (behind ≡ flat_map (row_line s n) rows ++ now x))
       → IfOk r (λ x. (reply : Reply) × IsTrue (reply_fits reply) × (text ≡ reply_text s n reply ++ now x))
   reply_told now (Ok x) (rows, counted, rooms, written) =
-      let joined = join_reply head.0 rows head.1 (sym head.3 ∙ sym counted) rooms in
-      (joined.whole, joined.fits,
-      head.2 ∙ ap (λ (z : List ℕ). head_text s n head.0 ++ z) written
-      ∙ sym (append_assoc (head_text s n head.0) (flat_map (row_line s n) rows) (now x)) ∙ ap (λ (z : List ℕ). z ++ now x) (joined.text s n))
+      let joined = join_reply head.0 rows head.1 (sym head.3 ∙ sym counted) rooms in (
+        joined.whole,
+        joined.fits,
+        head.2 ∙ ap (λ (z : List ℕ). head_text s n head.0 ++ z) written
+            ∙ sym (append_assoc (head_text s n head.0) (flat_map (row_line s n) rows) (now x)) ∙ ap (λ (z : List ℕ). z ++ now x) (joined.text s n),
+      )
   reply_told now (Err e) h = tt
 
 -- ---- a session
@@ -144,7 +146,7 @@ starts_push s n at (q ∷ rs) r =
     let text = reply_text s n q in
     let later = texts_from (reply_text s) (n + 1) rs in
     let size : (at + length text) + length later ≡ at + length (text ++ later) =
-        let both : length (text ++ later) ≡ length text + length later = length-append text later in omega arith in
+    let both : length (text ++ later) ≡ length text + length later = length-append text later in omega arith in
     ap (λ (z : List ℕ). at ∷ z)
     (starts_push s (n + 1) (at + length text) rs r ∙ ap (λ (m : ℕ). starts_of s (n + 1) (at + length text) rs ++ m ∷ []) size)
 
@@ -237,10 +239,12 @@ are_starts_push s at (q ∷ places) (u ∷ ts) p t h e =
     let later = texts_from session_text (s + 1) ts in
     let both : length (text ++ later) ≡ length text + length later = length-append text later in
     let start : at + length (text ++ later) ≡ (at + length text) + length later = omega arith in
-    let place : suc (length ts) + s ≡ length ts + (s + 1) = omega arith in
-    (h.0, are_starts_push (s + 1) (at + length text) places ts p t h.1
-    (e ∙ ap (λ (m : ℕ). starts_of (suc (length ts) + s) 1 m t) start
-    ∙ ap (λ (m : ℕ). starts_of m 1 ((at + length text) + length later) t) place))
+    let place : suc (length ts) + s ≡ length ts + (s + 1) = omega arith in (
+      h.0,
+      are_starts_push (s + 1) (at + length text) places ts p t h.1
+          (e ∙ ap (λ (m : ℕ). starts_of (suc (length ts) + s) 1 m t) start
+          ∙ ap (λ (m : ℕ). starts_of m 1 ((at + length text) + length later) t) place),
+    )
 
 module _ (size : ℕ) (sessions : List Session) (text : List ℕ) where
   pub sessions_begin : length text ≤ size → SessionsSo size sessions text 0 [] text
@@ -263,7 +267,7 @@ module _ (size : ℕ) (sessions : List Session) (text : List ℕ) where
         (GoesReplies (places_from (index + 1) 1 (length entered.statements) ++ all_places (index + 1 + 1) (drop (index + 1) sessions))) bytes left
     sessions_at script bytes e stands =
         let split : drop index sessions ≡ entered ∷ drop (index + 1) sessions =
-            drop_more sessions index entered below ∙ ap (λ (u : Session). u ∷ drop (index + 1) sessions) (sym is) in
+        drop_more sessions index entered below ∙ ap (λ (u : Session). u ∷ drop (index + 1) sessions) (sym is) in
         subst (λ (z : List Session). Stands script (GoesReplies (all_places (index + 1) z)) bytes left) split (so.goes script bytes e stands)
 
     pub sessions_next : (p : Vec ℕ) (behind : List ℕ) (t : List Reply) → length t ≡ length entered.statements → IsTrue (list_all reply_fits t)
@@ -281,7 +285,7 @@ module _ (size : ℕ) (sessions : List Session) (text : List ℕ) where
         let all : length (so.transcripts ++ t ∷ []) ≡ length so.transcripts + 1 = length-append so.transcripts (t ∷ []) in
         let number : index + 1 ≡ length so.transcripts + 1 = omega arith in
         let shorter : length left ≡ length (session_text (index + 1) t) + length behind =
-            ap length written ∙ length-append (session_text (index + 1) t) behind in
+        ap length written ∙ length-append (session_text (index + 1) t) behind in
         record {
           first = first;
           within = omega arith;
@@ -341,7 +345,7 @@ module _ (text : List ℕ) where
         let read = texts_from entry_text 1 entries in
         let k = length entries + 1 in
         let number : k + 1 ≡ length (entries ++ e ∷ []) + 1 =
-            let all : length (entries ++ e ∷ []) ≡ length entries + 1 = length-append entries (e ∷ []) in omega arith in
+        let all : length (entries ++ e ∷ []) ≡ length entries + 1 = length-append entries (e ∷ []) in omega arith in
         record {
           rooms = all_push entry_has_room entries e so.rooms begins.fitting;
           written = so.written ∙ ap (λ (z : List ℕ). read ++ z) begins.written ∙ sym (append_assoc read (entry_text k e) behind)

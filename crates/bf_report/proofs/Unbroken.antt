@@ -149,7 +149,7 @@ one_of P test (form ∷ fs) h (inr later) = one_of P test fs (and_parts (test fo
 plain_is_line : (r : Reply) → IsTrue (plain_fits r) → IsLine (plain_text r)
 plain_is_line r h =
     let found = one_of (λ form. (t : Told) × IsTrue (tail_fits form.1 t) × (plain_text r ≡ form_text form.0 form.1 t))
-        (λ form. list_all is_unbroken form.0) forms refl (of_form r h) in
+    (λ form. list_all is_unbroken form.0) forms refl (of_form r h) in
     let form = found.0 in
     let told = found.1 in
     line_as (form_text form.0 form.1 told.0) (plain_text r) (sym told.2)
@@ -172,8 +172,8 @@ body_is_line : (head : Head) → IsTrue (head_fits head) → IsLine (head_body h
 body_is_line (RowsOf count) h = worded_is_line (codes "rows ") refl count
 body_is_line (OneLine r) h =
     elim (plain_or_cause r h) as (λ _. IsLine (plain_text r)) [
-      inl plain ↦ plain_is_line r plain |
-      inr told ↦ line_as (ended_cause told.0) (plain_text r) (ap plain_text (sym told.1)) (cause_is_line told.0)
+      | inl plain ↦ plain_is_line r plain
+      | inr told ↦ line_as (ended_cause told.0) (plain_text r) (ap plain_text (sym told.1)) (cause_is_line told.0)
     ]
 
 pub head_is_line : (s n : ℕ) (head : Head) → IsTrue (head_fits head) → IsLine (head_text s n head)

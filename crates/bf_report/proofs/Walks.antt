@@ -44,7 +44,7 @@ fronts_same (b ∷ f) [] y z h k e =
     absurd (broken b (feed_first b 10 (f ++ 10 ∷ y) z e) (and_parts (is_unbroken b) (list_all is_unbroken f) h).0)
 fronts_same (b ∷ f) (c ∷ g) y z h k e =
     let more = fronts_same f g y z (and_parts (is_unbroken b) (list_all is_unbroken f) h).1 (and_parts (is_unbroken c) (list_all is_unbroken g) k).1
-        (ap (drop 1) e) in
+    (ap (drop 1) e) in
     let first = feed_first b c (f ++ 10 ∷ y) (g ++ 10 ∷ z) e in
     let whole : b ∷ f ≡ c ∷ g = cc (first, more.0) in
     (whole, more.1)
@@ -128,20 +128,20 @@ module _ (script : Script) (Goes : List ℕ → Type 0) (bytes left : List ℕ) 
       let sizes : length bytes ≡ length front + length left = ap length stands.written ∙ length-append front left in
       let split : n ≡ length front + m = omega arith in
       let cut : take n bytes ≡ front ++ more =
-          ap (take n) stands.written ∙ ap (λ (k : ℕ). take k (front ++ left)) split ∙ take-append-add front left m in
+      ap (take n) stands.written ∙ ap (λ (k : ℕ). take k (front ++ left)) split ∙ take-append-add front left m in
       let size : length more ≡ m = length-take-le m left (omega arith) in
       let some : 0 < length more = omega arith in
       let lines = lines_behind front more some (subst (λ (z : List ℕ). IsTrue (are_lines z)) cut begins.lines) in
       let first = first_line more some lines in
       let there : left ≡ first.line ++ 10 ∷ (first.rest ++ drop m left) =
-          sym (take-append-drop m left) ∙ ap (λ (z : List ℕ). z ++ drop m left) first.written
-          ∙ append_assoc first.line (10 ∷ first.rest) (drop m left) in
+      sym (take-append-drop m left) ∙ ap (λ (z : List ℕ). z ++ drop m left) first.written
+      ∙ append_assoc first.line (10 ∷ first.rest) (drop m left) in
       let other = more ++ begins.rest in
       let told : other ≡ first.line ++ 10 ∷ (first.rest ++ begins.rest) =
-          ap (λ (z : List ℕ). z ++ begins.rest) first.written ∙ append_assoc first.line (10 ∷ first.rest) begins.rest in
+      ap (λ (z : List ℕ). z ++ begins.rest) first.written ∙ append_assoc first.line (10 ∷ first.rest) begins.rest in
       let share : SharesLine left other = Line first.line (first.rest ++ drop m left) (first.rest ++ begins.rest) first.unbroken there told in
       let whole : take n bytes ++ begins.rest ≡ front ++ other =
-          ap (λ (z : List ℕ). z ++ begins.rest) cut ∙ append_assoc front more begins.rest in
+      ap (λ (z : List ℕ). z ++ begins.rest) cut ∙ append_assoc front more begins.rest in
       never other share (stands.only other share (begins.parts, subst (λ (z : List ℕ). IsReport script z begins.parts) whole begins.goes_on))
 
   -- where nothing that shares the line goes on, the bytes are no report
@@ -180,7 +180,7 @@ module _ (script : Script) (Goes : List ℕ → Type 0) (bytes left : List ℕ) 
         subst (λ (z : List ℕ). IsSomeReport script z) (sym (append_assoc stands.front line other)) (stands.enough (line ++ other) (closes other next));
     only = λ other share report.
         let both : SharesLine left (line ++ other) =
-            subst (λ (z : List ℕ). SharesLine z (line ++ other)) (sym written) (share_line line rest other l) in
+        subst (λ (z : List ℕ). SharesLine z (line ++ other)) (sym written) (share_line line rest other l) in
         opens other both
         (stands.only (line ++ other) both (subst (λ (z : List ℕ). IsSomeReport script z) (append_assoc stands.front line other) report));
   }

@@ -58,9 +58,10 @@ each_fits [] h = (refl, refl)
 each_fits (t ∷ ts) h =
     let parts = and_parts (list_all reply_fits t) (list_all (λ u. list_all reply_fits u) ts) h in
     let here = each_test is_named reply_has_room t parts.0 in
-    let later = each_fits ts parts.1 in
-    (and_from (list_all is_named t) (list_all (λ u. list_all is_named u) ts) here.0 later.0,
-    and_from (list_all reply_has_room t) (list_all (λ u. list_all reply_has_room u) ts) here.1 later.1)
+    let later = each_fits ts parts.1 in (
+      and_from (list_all is_named t) (list_all (λ u. list_all is_named u) ts) here.0 later.0,
+      and_from (list_all reply_has_room t) (list_all (λ u. list_all reply_has_room u) ts) here.1 later.1,
+    )
 
 -- ---- tables whose names rise
 
@@ -123,14 +124,16 @@ made_report script bytes parts made written =
 
 of_report : (script : Script) (bytes : List ℕ) (parts : Parts) → IsReport script bytes parts → IsMade script parts × (bytes ≡ in_turn parts)
 of_report script bytes parts report =
-    let of = report.parts_of_script in
-    (record {
-      answered = of.told.all_answered;
-      replies = all_fit parts.transcripts of.told.refusals_named of.replies_room;
-      entries = of.entries_room;
-      tables = follow_from parts.audit of.told.tables_named of.tables_room of.by_name;
-      last = of.sweep_room;
-    }, report.written ∙ turned parts)
+    let of = report.parts_of_script in (
+      record {
+        answered = of.told.all_answered;
+        replies = all_fit parts.transcripts of.told.refusals_named of.replies_room;
+        entries = of.entries_room;
+        tables = follow_from parts.audit of.told.tables_named of.tables_room of.by_name;
+        last = of.sweep_room;
+      },
+      report.written ∙ turned parts,
+    )
 
 -- ---- replies in turn
 
@@ -138,9 +141,13 @@ go_session : (s n : ℕ) (replies : List Reply) (places : List At) (z : List ℕ
     → GoesReplies (places_from s n (length replies) ++ places) (texts_from (reply_text s) n replies ++ z)
 go_session s n [] places z h goes = goes
 go_session s n (r ∷ rs) places z h goes =
-    let parts = and_parts (reply_fits r) (list_all reply_fits rs) h in
-    (r, texts_from (reply_text s) (n + 1) rs ++ z, parts.0, append_assoc (reply_text s n r) (texts_from (reply_text s) (n + 1) rs) z,
-    go_session s (n + 1) rs places z parts.1 goes)
+    let parts = and_parts (reply_fits r) (list_all reply_fits rs) h in (
+      r,
+      texts_from (reply_text s) (n + 1) rs ++ z,
+      parts.0,
+      append_assoc (reply_text s n r) (texts_from (reply_text s) (n + 1) rs) z,
+      go_session s (n + 1) rs places z parts.1 goes,
+    )
 
 head_size : {m n : ℕ} {ms ns : List ℕ} → m ∷ ms ≡ n ∷ ns → (m ≡ n) × (ms ≡ ns)
 head_size e = (cc, cc)
@@ -214,9 +221,13 @@ from_report script bytes (parts, report) =
     let last = end_text (commits_of parts.history) parts.sweep in
     let tables = flat_map table_line parts.audit ++ last in
     let rest = texts_from entry_text 1 parts.history ++ tables in
-    let goes : GoesEntries 1 0 rest =
-        (parts.history, tables, made.entries, refl,
-        subst (λ (n : ℕ). GoesTables [] n tables) (omega arith) (parts.audit, last, made.tables, refl, (parts.sweep, made.last, refl))) in
+    let goes : GoesEntries 1 0 rest = (
+      parts.history,
+      tables,
+      made.entries,
+      refl,
+      subst (λ (n : ℕ). GoesTables [] n tables) (omega arith) (parts.audit, last, made.tables, refl, (parts.sweep, made.last, refl)),
+    ) in
     subst (λ (z : List ℕ). GoesReplies (all_places 1 script.sessions) z) (sym found.1)
     (go_sessions 1 script.sessions parts.transcripts rest made.answered made.replies goes)
 
@@ -229,11 +240,13 @@ to_report script bytes goes =
     let parts : Parts = record { transcripts = read.transcripts; history = entries.0; audit = tables.0; sweep = end.0 } in
     let counted : 0 + commits_of entries.0 ≡ commits_of entries.0 = omega arith in
     let written : bytes ≡ in_turn parts =
-        read.written ∙ ap (λ (z : List ℕ). texts_from session_text 1 read.transcripts ++ z)
-        (entries.3 ∙ ap (λ (z : List ℕ). texts_from entry_text 1 entries.0 ++ z)
-        (tables.3 ∙ ap (λ (z : List ℕ). flat_map table_line tables.0 ++ z) (end.2 ∙ ap (λ (n : ℕ). end_text n end.0) counted))) in
-    (parts, made_report script bytes parts
-    (record { answered = read.sizes; replies = read.fits; entries = entries.2; tables = tables.2; last = end.1 }) written)
+    read.written ∙ ap (λ (z : List ℕ). texts_from session_text 1 read.transcripts ++ z)
+    (entries.3 ∙ ap (λ (z : List ℕ). texts_from entry_text 1 entries.0 ++ z)
+    (tables.3 ∙ ap (λ (z : List ℕ). flat_map table_line tables.0 ++ z) (end.2 ∙ ap (λ (n : ℕ). end_text n end.0) counted))) in (
+      parts,
+      made_report script bytes parts
+          (record { answered = read.sizes; replies = read.fits; entries = entries.2; tables = tables.2; last = end.1 }) written,
+    )
 
 pub at_first : (script : Script) (bytes : List ℕ) → Stands script (GoesReplies (all_places 1 script.sessions)) bytes bytes
 at_first script bytes = record {
@@ -255,12 +268,14 @@ stand_at s n (r ∷ rs) front rest =
     let bytes = front ++ ((text ++ texts_from (reply_text s) (n + 1) rs) ++ rest) in
     let regrouped : bytes ≡ front ++ (text ++ later) = ap (λ (z : List ℕ). front ++ z) (append_assoc text (texts_from (reply_text s) (n + 1) rs) rest) in
     let here : StandsAt bytes (length front) text =
-        (later, ap (drop (length front)) regrouped ∙ drop-append_seam front (text ++ later)) in
+    (later, ap (drop (length front)) regrouped ∙ drop-append_seam front (text ++ later)) in
     let whole : (front ++ text) ++ later ≡ bytes = append_assoc front text later ∙ sym regrouped in
     let size : length (front ++ text) ≡ length front + length text = length-append front text in
-    let more = stand_at s (n + 1) rs (front ++ text) rest in
-    (here, subst (λ (z : List ℕ). RepliesStandAt z s (n + 1) (starts_of s (n + 1) (length front + length text) rs) rs) whole
-    (subst (λ (at : ℕ). RepliesStandAt ((front ++ text) ++ later) s (n + 1) (starts_of s (n + 1) at rs) rs) size more))
+    let more = stand_at s (n + 1) rs (front ++ text) rest in (
+      here,
+      subst (λ (z : List ℕ). RepliesStandAt z s (n + 1) (starts_of s (n + 1) (length front + length text) rs) rs) whole
+          (subst (λ (at : ℕ). RepliesStandAt ((front ++ text) ++ later) s (n + 1) (starts_of s (n + 1) at rs) rs) size more),
+    )
 
 pub sessions_stand : (s : ℕ) (ts : List (List Reply)) (places : List (Vec ℕ)) (front rest : List ℕ) → AreStarts s (length front) places ts
     → SessionsStandAt (front ++ (texts_from session_text s ts ++ rest)) s places ts
@@ -275,10 +290,11 @@ sessions_stand s (t ∷ ts) (p ∷ ps) front rest starts =
     let whole : (front ++ text) ++ later ≡ bytes = append_assoc front text later ∙ sym regrouped in
     let size : length front + length text ≡ length (front ++ text) = sym (length-append front text) in
     let here = stand_at s 1 t front later in
-    let more = sessions_stand (s + 1) ts ps (front ++ text) rest (subst (λ (at : ℕ). AreStarts (s + 1) at ps ts) size starts.1) in
-    (subst (λ (z : List ℕ). RepliesStandAt z s 1 p.items t) (sym regrouped)
-    (subst (λ (places : List ℕ). RepliesStandAt (front ++ (text ++ later)) s 1 places t) (sym starts.0) here),
-    subst (λ (z : List ℕ). SessionsStandAt z (s + 1) ps ts) whole more)
+    let more = sessions_stand (s + 1) ts ps (front ++ text) rest (subst (λ (at : ℕ). AreStarts (s + 1) at ps ts) size starts.1) in (
+      subst (λ (z : List ℕ). RepliesStandAt z s 1 p.items t) (sym regrouped)
+          (subst (λ (places : List ℕ). RepliesStandAt (front ++ (text ++ later)) s 1 places t) (sym starts.0) here),
+      subst (λ (z : List ℕ). SessionsStandAt z (s + 1) ps ts) whole more,
+    )
 
 -- ---- what was read is a report
 
@@ -306,25 +322,27 @@ module _ (script : Script) (bytes : List ℕ) (places : List (Vec ℕ)) (entries
       let done = texts_from entry_text 1 entries in
       let last : behind_tables ≡ end_text (commits_of entries) sweep = fourth ∙ ap (λ (n : ℕ). end_text n sweep) counted in
       let told : behind_entries ≡ flat_map table_line tables ++ end_text (commits_of entries) sweep =
-          third ∙ ap (λ (z : List ℕ). flat_map table_line tables ++ z) last in
+      third ∙ ap (λ (z : List ℕ). flat_map table_line tables ++ z) last in
       let behind : behind_replies ≡ done ++ behind_entries = second in
       let front : bytes ≡ (replies ++ done) ++ behind_entries =
-          first ∙ ap (λ (z : List ℕ). replies ++ z) second ∙ sym (append_assoc replies done behind_entries) in
+      first ∙ ap (λ (z : List ℕ). replies ++ z) second ∙ sym (append_assoc replies done behind_entries) in
       let size : length bytes ≡ length (replies ++ done) + length behind_entries = ap length front ∙ length-append (replies ++ done) behind_entries in
       let place : audit ≡ length (replies ++ done) = omega arith in
       let none : length bytes - length bytes ≡ 0 = omega arith in
       let written : bytes ≡ in_turn parts =
-          first ∙ ap (λ (z : List ℕ). replies ++ z) (second ∙ ap (λ (z : List ℕ). done ++ z) told) in
-      (parts, record {
-        report = made_report script bytes parts
-            (record { answered = sizes; replies = fits; entries = rooms; tables = rising; last = room }) written;
-        replies = subst (λ (z : List (Vec ℕ)). SessionsStandAt bytes 1 z transcripts) (sym same_places)
-            (subst (λ (z : List ℕ). SessionsStandAt z 1 places transcripts) (sym first)
-            (sessions_stand 1 transcripts places [] behind_replies (subst (λ (n : ℕ). AreStarts 1 n places transcripts) none starts)));
-        entries = same_entries;
-        audit = ap (λ (n : ℕ). drop n bytes) (same_audit ∙ place) ∙ ap (drop (length (replies ++ done))) front
-            ∙ drop-append_seam (replies ++ done) behind_entries ∙ told;
-      })
+      first ∙ ap (λ (z : List ℕ). replies ++ z) (second ∙ ap (λ (z : List ℕ). done ++ z) told) in (
+        parts,
+        record {
+          report = made_report script bytes parts
+              (record { answered = sizes; replies = fits; entries = rooms; tables = rising; last = room }) written;
+          replies = subst (λ (z : List (Vec ℕ)). SessionsStandAt bytes 1 z transcripts) (sym same_places)
+              (subst (λ (z : List ℕ). SessionsStandAt z 1 places transcripts) (sym first)
+              (sessions_stand 1 transcripts places [] behind_replies (subst (λ (n : ℕ). AreStarts 1 n places transcripts) none starts)));
+          entries = same_entries;
+          audit = ap (λ (n : ℕ). drop n bytes) (same_audit ∙ place) ∙ ap (drop (length (replies ++ done))) front
+              ∙ drop-append_seam (replies ++ done) behind_entries ∙ told;
+        },
+      )
 
 -- an answer that is a place
 pub stopped_here : {Y : Type 0} (r : Result Y ReportError) (R : Y → Type 0) (Q : ℕ → Type 0) (at : ℕ) → IfRead r R Q → r ≡ Err (report.NoReport at) → Q at

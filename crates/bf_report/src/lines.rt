@@ -151,5 +151,8 @@ fn sweep(text: &[u8]) -> Option<&[u8]>
 pub(crate) fn end_line(text: &[u8], commits: u64) -> Option<&[u8]>
     ensures { Finds (end_text commits) sweep_has_room text.now (option_copied result) }
 {
-    sweep(behind(behind_numbered(text, b"end commits ", commits)?, b" migration ")?)
+    sweep(behind(
+        behind_numbered(text, b"end commits ", commits)?,
+        b" migration ",
+    )?)
 }

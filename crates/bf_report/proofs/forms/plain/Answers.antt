@@ -17,4 +17,4 @@ returns-in-Some c =
 pub returns : goal.returns
 returns c =
     no_form c.args.text.now (λ some.
-        subst (λ (z : List Form). BeginsOne c.args.text.now z) (drop_all c.loop-index.index forms (omega arith)) (c.loop-index.invariant some))
+    subst (λ (z : List Form). BeginsOne c.args.text.now z) (drop_all c.loop-index.index forms (omega arith)) (c.loop-index.invariant some))

@@ -9,14 +9,14 @@ pub loop-entry-smaller : goal.loop-entry-smaller
 loop-entry-smaller c =
     let size : c.len.result ≡ length c.loop-entry.entries.items = omega (arith, c.len.ensures, c.loop-entry.entries.ok.0) in
     let read = subst (λ (n : ℕ). Reads (entry_text (n + 1)) entry_has_room EndsLine c.loop-entry.left.now (Some (c.in-Some.entry, c.in-Some.behind.now))) size
-        c.in-Some.ensures in
+    c.in-Some.ensures in
     entries_shorter c.args.text.now c.loop-entry.entries.items c.loop-entry.left.now c.loop-entry.invariant c.in-Some.entry c.in-Some.behind.now read
 
 pub loop-entry-preserved : goal.loop-entry-preserved
 loop-entry-preserved c =
     let size : c.len.result ≡ length c.loop-entry.entries.items = omega (arith, c.len.ensures, c.loop-entry.entries.ok.0) in
     let read = subst (λ (n : ℕ). Reads (entry_text (n + 1)) entry_has_room EndsLine c.loop-entry.left.now (Some (c.in-Some.entry, c.in-Some.behind.now))) size
-        c.in-Some.ensures in
+    c.in-Some.ensures in
     rw c.in_ok-push.ensures.items
     (entries_next c.args.text.now c.loop-entry.entries.items c.loop-entry.left.now c.loop-entry.invariant c.in-Some.entry c.in-Some.behind.now read)
 

@@ -23,7 +23,7 @@ returns-in_err-end-clause-no_report c = λ at e.
     let goes = rw c.as_slice.ensures at c.in_ok-replies.ensures.goes in
     let entries = c.in_ok-entries.entries.items in
     let tables = c.tables.ensures.goes script bytes (commits_of entries)
-        (c.in_ok-entries.ensures.goes script bytes (goes script bytes refl (at_first script bytes))) in
+    (c.in_ok-entries.ensures.goes script bytes (goes script bytes refl (at_first script bytes))) in
     let counted : commits_of entries ≡ c.commits_in.result = sym (c.commits_in.ensures ∙ ap commits_of c.as_slice-2.ensures.value) in
     let last = subst (λ (n : ℕ). Stands script (GoesEnd n) bytes c.tables.result.now) counted tables in
     stopped_here c.from_residual-in_err-end.result (λ (x : Reading). Unit {0}) (IsNoReport script bytes) at
