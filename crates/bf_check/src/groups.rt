@@ -51,11 +51,11 @@ fn enter(
     number: u32,
     statement: &Statement,
 ) -> Result<Option<u32>, Memory>
-    ensures { IfOk result (λ open. (statements : List Told) (index : ℕ) → number ≡ index + 1
+    ensures { IfOk result (λ now. (statements : List Told) (index : ℕ) → number ≡ index + 1
         → index < length statements
         → statement.now ≡ slice_index_or statements index statement.now
         → GroupsSo statements index began groups.old.items
-        → GroupsSo statements (index + 1) open groups.new.items) }
+        → GroupsSo statements (index + 1) now groups.new.items) }
 {
     if let Some(first) = began {
         let Some(commits) = block_end(statement) else {
