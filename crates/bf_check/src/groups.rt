@@ -70,7 +70,8 @@ fn enter(
     }
     match statement {
         Statement::Begin => Ok(Some(number)),
-        Statement::Commit | Statement::Rollback => Ok(None),
+        Statement::Commit => Ok(None),
+        Statement::Rollback => Ok(None),
         _ => {
             groups.push(Group {
                 first: number,
