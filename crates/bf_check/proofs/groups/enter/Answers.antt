@@ -5,9 +5,8 @@ use Rattle.bf_check.proofs.groups.enter.Goals as goal
 
 pub returns-in_default-block_end : goal.returns-in_default-block_end
 returns-in_default-block_end c = λ ss index number below at so.
-    rw c.in-Some.is
-    (inner_next ss index _ c.args.statement.now below at c.in-Some.first (rw c.in-Some.is at so)
-    (not_ended c.args.statement.now c.in_default-block_end.ensures))
+    inner_next ss index _ c.args.statement.now below at c.in-Some.first (rw c.in-Some.is at so)
+    (not_ended c.args.statement.now c.in_default-block_end.ensures)
 
 pub returns-in-Some : goal.returns-in-Some
 returns-in-Some c = λ ss index number below at so.
