@@ -1,6 +1,6 @@
 //! The old rows of a migration by their values, kept while it is the last one.
 
-ghost use Rattle.std.specs.Prelude.{◌≡◌, IfOk, IsTrue, OnOk, Some};
+ghost use Rattle.std.specs.Prelude.{◌≡◌, IfOk, IfSome, IsTrue, OnOk, Some};
 ghost use Rattle.std.specs.Option.{option_map};
 ghost use Rattle.boxcar.specs.Table.{Shows};
 ghost use Rattle.bf_image.specs.Migrations.{value_indexes};
@@ -11,6 +11,7 @@ ghost use Rattle.bf_machine.specs.interleaving.Calls.{IsEnough};
 use crate::machine::Machine;
 use crate::opened::Opened;
 use bf_base::Memory;
+use bf_candidates::{candidates_of, cover_among};
 use bf_image::{MigrationPass, Registry, ValueIndexes};
 use bf_transpose::{Cover, can_need, cover_of};
 use bf_tree::Bound;
@@ -122,10 +123,46 @@ pub fn look_up<N: Opened>(
     Ok(())
 }
 
-/// What is enough of a bound statement's cover for [`Machine::exec`], by the migration of a pass: its
-/// cover, and the look-ups of the migration are kept where it can need any of it. Nothing is looked for
-/// where it can need none of it, or where nothing of the machine's last migration is left to move. It
-/// costs what [`cover_of`] does, and what [`look_up`] does, where anything is looked for.
+/// What is enough of a bound statement's cover, as far as the keys that the statement fixes tell; none where
+/// it fixes no key. Nothing is looked for where each granule has moved from which rows with its keys can come;
+/// else the look-ups of the migration are kept.
+fn cover_by_keys<N: Opened>(
+    alloc: Global,
+    registry: &Registry,
+    lookups: &mut Option<Lookups<N>>,
+    machine: &Machine<N>,
+    pass: &MigrationPass,
+    bound: &Bound,
+) -> Result<Option<Cover>, Memory>
+    requires registry { registry.now ≡ N.registry }
+    requires pass { Shows N.registry.migrations pass.now }
+    requires own { machine.now.pass ≡ Some pass.now }
+    requires bound { IsWellBound bound.now.action }
+    ensures { IfOk result (λ cover.
+        IfSome cover (IsEnough machine.now (Some pass.now.value) bound.now)) }
+{
+    let last = registry.migration(pass);
+    let Some(candidates) = candidates_of(alloc, bound, last)? else {
+        return Ok(None);
+    };
+    let left = machine.need(alloc, &candidates)?;
+    if left.is_empty() {
+        return Ok(Some(Cover::empty(alloc, bound, last)));
+    }
+    look_up(alloc, registry, lookups, pass)?;
+    let Some(found) = lookups else {
+        unreachable!();
+    };
+    let cover = cover_among(alloc, bound, last, found.indexes(), &left)?;
+    Ok(Some(cover))
+}
+
+/// What is enough of a bound statement's cover for [`Machine::exec`], by the pass of the machine's last migration:
+/// its cover but for granules that have moved, and the look-ups of the migration are kept where any of it is looked
+/// for. Nothing is looked for where the statement can need none of it, where nothing of the migration is left
+/// to move, and where the statement fixes keys and each granule has moved from which rows with them can come. It
+/// costs what [`candidates_of`] does, with a look-up for each of them, and where anything is looked for what
+/// [`cover_of`] does, and what [`look_up`] does.
 ///
 /// # Errors
 /// Where memory runs out.
@@ -139,6 +176,7 @@ pub fn cover_with<N: Opened>(
 ) -> Result<Cover, Memory>
     requires registry { registry.now ≡ N.registry }
     requires pass { IsOf N.registry (option_map (λ pass. pass.now) migration) }
+    requires own { option_map (λ pass. pass.now) migration ≡ machine.now.pass }
     requires bound { IsWellBound bound.now.action }
     ensures { IfOk result (IsEnough machine.now
         (option_map (λ pass. pass.now.value) migration.entry) bound.now) }
@@ -146,13 +184,17 @@ pub fn cover_with<N: Opened>(
     let Some(pass) = migration else {
         return cover_of(alloc, bound, None);
     };
+    // Its contract says what a machine keeps.
+    let _ = machine.script();
     let last = registry.migration(pass);
-    if machine.is_complete() || !can_need(bound, last) {
-        return Ok(Cover {
-            catalog: bound.catalog,
-            migration: last.number,
-            granules: Vec::new(alloc),
-        });
+    if machine.is_complete() {
+        return Ok(Cover::empty(alloc, bound, last));
+    }
+    if !can_need(bound, last) {
+        return Ok(Cover::empty(alloc, bound, last));
+    }
+    if let Some(cover) = cover_by_keys(alloc, registry, lookups, machine, pass, bound)? {
+        return Ok(cover);
     }
     look_up(alloc, registry, lookups, pass)?;
     let Some(found) = lookups else {

@@ -24,15 +24,15 @@ use Rattle.bf_transpose.proofs.Inserted.{inserted, none_inserted}
 use Rattle.bf_transpose.proofs.Granules.{granule_cmp, granules_rise}
 
 module _ {X : Type 0} where
-  any_alike : (p q : X → Bool) → ((x : X) → p x ≡ q x) → (xs : List X) → list_any p xs ≡ list_any q xs
+  pub any_alike : (p q : X → Bool) → ((x : X) → p x ≡ q x) → (xs : List X) → list_any p xs ≡ list_any q xs
   any_alike p q one [] = refl
   any_alike p q one (x ∷ xs) = ap₂ (λ b c. b || c) (one x) (any_alike p q one xs)
 
-  filter_alike : (p q : X → Bool) → ((x : X) → p x ≡ q x) → (xs : List X) → filter p xs ≡ filter q xs
+  pub filter_alike : (p q : X → Bool) → ((x : X) → p x ≡ q x) → (xs : List X) → filter p xs ≡ filter q xs
   filter_alike p q one [] = refl
   filter_alike p q one (x ∷ xs) = ap₂ (λ b zs. cond b (x ∷ zs) zs) (one x) (filter_alike p q one xs)
 
-  any_of_both : (p q : X → Bool) (xs : List X) → list_any (λ x. p x || q x) xs ≡ (list_any p xs || list_any q xs)
+  pub any_of_both : (p q : X → Bool) (xs : List X) → list_any (λ x. p x || q x) xs ≡ (list_any p xs || list_any q xs)
   any_of_both p q [] = refl
   any_of_both p q (x ∷ xs) = ap (λ b. (p x || q x) || b) (any_of_both p q xs) ∙ turned (p x) (q x) (list_any p xs) (list_any q xs)
     where
@@ -42,7 +42,7 @@ module _ {X : Type 0} where
       turned false true false d = refl
       turned false false c d = refl
 
-  any_so : (p q : X → Bool) → ((x : X) → p x ≡ true → q x ≡ true) → (xs : List X) → list_any p xs ≡ true → list_any q xs ≡ true
+  pub any_so : (p q : X → Bool) → ((x : X) → p x ≡ true → q x ≡ true) → (xs : List X) → list_any p xs ≡ true → list_any q xs ≡ true
   any_so p q one [] some = absurd cc
   any_so p q one (x ∷ xs) some = elim (cases_Bool (p x)) [
     | inl passes ↦ or_left _ _ (one x passes)
@@ -88,7 +88,7 @@ module _ (old : Database) (m : Migrate) (t : Target) (table : Table) (alike : (t
         any_alike _ _ row_more (part_in old m t.name g)
         ∙ any_of_both (has_key_of table (take i tuples) t) (λ row. same_key key (key_of (target_table old t) row)) (part_in old m t.name g)
 
-    all_more : filter (has_one (take (i + 1) tuples)) (granules_of old m) ≡ filter (λ g. has_one (take i tuples) g || owns old m t key g) (granules_of old m)
+    pub all_more : filter (has_one (take (i + 1) tuples)) (granules_of old m) ≡ filter (λ g. has_one (take i tuples) g || owns old m t key g) (granules_of old m)
     all_more = filter_alike _ _ granule_more (granules_of old m)
 
     pub owner_inserted : (g : Granule) → owner_of old m t key ≡ Some g → insert_key granule_cmp (filter (has_one (take i tuples)) (granules_of old m)) g ≡ filter (has_one (take (i + 1) tuples)) (granules_of old m)

@@ -20,6 +20,8 @@ pub mod Named
 pub mod Numbered
 mod Outside
 pub mod Owners
+pub mod Paired
+pub mod Possible
 mod Ranged
 mod Rising
 mod Sought

@@ -2,14 +2,18 @@
 #![tactic(auto)]
 
 mod bounds;
+pub mod by_key;
 mod condition;
 pub mod cover;
 mod drivers;
 mod joined;
 mod merge;
-mod owning;
+pub mod owning;
 mod scan;
-mod target;
+pub mod target;
 mod transposed;
 
-pub use cover::{Cover, can_need, cover_of};
+pub use by_key::{add_candidates, candidates};
+pub use cover::{Cover, can_need, cover_of, needed};
+pub use owning::listed;
+pub use target::target_of;

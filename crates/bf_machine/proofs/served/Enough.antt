@@ -1,7 +1,10 @@
 -- ENOUGH IS ENOUGH: what is left of it is what is left of the statement's need.
-use Rattle.std.proofs.Common.{◌≡◌, ◌⊎◌, ℕ, not, List, [], length, Option, Some, None, refl, sym, ap, ◌∙◌, inl, inr}
+use Rattle.std.proofs.Common.{◌≡◌, ◌==◌, arith, ℕ, Bool, true, false, not, ◌||◌, cond, List, [], ◌∷◌, filter, length, Option, Some, None, refl, sym, ap, ap₂, ◌∙◌, inl, inr}
 use Rattle.std.specs.Prelude.{IsSomeAnd, find}
+use Rattle.std.specs.List.{list_all}
 use Rattle.std.specs.Option.{option_map}
+use Rattle.std.proofs.lemmas.Bool.{and_parts, cases_Bool, or_left, or_right}
+use Rattle.std.proofs.lemmas.Bool.Decides.{nat_tests}
 use Rattle.boxcar.specs.Table.{Where}
 use Rattle.bf_base.specs.declared.granule.Granule.{Granule}
 use Rattle.bf_base.specs.Lists.{has}
@@ -10,9 +13,10 @@ use Rattle.bf_tree.specs.declared.bound.Bound.{Bound}
 use Rattle.bf_tree.specs.declared.history.Sweep.TheVariants.{Complete}
 use Rattle.bf_sql.specs.Database.{Database}
 use Rattle.bf_sql.specs.migrations.Granules.{granules_of, same_granule}
-use Rattle.bf_sql.specs.migrations.Lazy.{LazyState, Migration, anchored, is_done, pending, sweep_by, sweep_of}
+use Rattle.bf_sql.specs.migrations.Lazy.{LazyState, Migration, anchored, is_done, not_done, pending, sweep_by, sweep_of}
 use Rattle.bf_sql.specs.migrations.Need.{needed_for}
 use Rattle.bf_image.specs.declared.migration.Migration.{Migration as Kept}
+use Rattle.bf_image.proofs.finding.Found.{same_granule-equal}
 use Rattle.bf_image.proofs.items.Lists.{all_so}
 use Rattle.bf_store.specs.States.{IsComplete, IsUnderWayIfAny, granules_done, need_of, to_move}
 use Rattle.bf_store.specs.Stores.{IsByPass}
@@ -60,18 +64,71 @@ need_by_pass (Some last) (Some pass) act is = ap (λ (l : Migration). needed_for
 need_by_pass None (Some pass) act is = absurd is
 need_by_pass (Some last) None act is = absurd is
 
--- a cover, or no granule where nothing is left to move
+-- of a cover is left to move what is left of the need
 abbrev pub IsEnoughFor : Option Migration → Option Kept → Bound → Cover → Type 0
-IsEnoughFor last migration bound cover = IsCoverOf migration bound cover ⊎ (IsSomeAnd last IsComplete × (cover.granules.items ≡ []))
+IsEnoughFor last migration bound cover = to_move last cover.granules.items ≡ to_move last (needed_in migration bound.action)
 
 module _ (lazy : LazyState) (own : Option (Where Kept)) (by : IsByPass lazy.last own) (migration : Option Kept)
     (same : migration ≡ option_map (λ (p : Where Kept). p.value) own) (bound : Bound) (cover : Cover) where
-  pub cover_is_need : IsCoverOf migration bound cover → cover.granules.items ≡ need_of lazy.last bound.action
-  cover_is_need covers = covers.granules ∙ (ap (λ (last : Option Kept). needed_in last bound.action) same ∙ sym (need_by_pass lazy.last own bound.action by))
+  pub enough_is_enough : IsEnoughFor lazy.last migration bound cover → to_move lazy.last cover.granules.items ≡ to_move lazy.last (need_of lazy.last bound.action)
+  enough_is_enough is = is ∙ ap (to_move lazy.last) (ap (λ (last : Option Kept). needed_in last bound.action) same ∙ sym (need_by_pass lazy.last own bound.action by))
 
-  pub enough_is_enough : IsUnderWayIfAny lazy.live lazy.last → IsEnoughFor lazy.last migration bound cover
-      → to_move lazy.last cover.granules.items ≡ to_move lazy.last (need_of lazy.last bound.action)
-  enough_is_enough way is = elim is as (λ _. to_move lazy.last cover.granules.items ≡ to_move lazy.last (need_of lazy.last bound.action)) [
-    | inl covers ↦ ap (to_move lazy.last) (cover_is_need covers)
-    | inr none ↦ ap (to_move lazy.last) none.1 ∙ (nothing_left lazy.last ∙ sym (complete_leaves_none lazy.live lazy.last way none.0 bound.action))
-  ]
+-- an exact cover is enough
+pub exact_is_enough : (last : Option Migration) (migration : Option Kept) (bound : Bound) (cover : Cover) → IsCoverOf migration bound cover → IsEnoughFor last migration bound cover
+exact_is_enough last migration bound cover covers = ap (to_move last) covers.granules
+
+-- and no granule where none of the need is left
+pub nothing_is_enough : (last : Option Migration) (migration : Option Kept) (bound : Bound) (cover : Cover) → cover.granules.items ≡ [] → to_move last (needed_in migration bound.action) ≡ []
+    → IsEnoughFor last migration bound cover
+nothing_is_enough last migration bound cover empty none = ap (to_move last) empty ∙ (nothing_left last ∙ sym none)
+
+-- among granules of which none is left stands none that is left
+pub none_among : (last : Option Migration) (granules need : List Granule) → list_all (has same_granule granules) need ≡ true → to_move last granules ≡ [] → to_move last need ≡ []
+none_among None granules need each none = refl
+none_among (Some last) granules need each none =
+    none_left_if_done last need
+    (all_so (has same_granule granules) (is_done last) (λ g there. has_if_within granules (granules_done last) g (done_if_none_left last granules none) there) need each)
+
+-- a list of no items
+pub nothing_there : (granules : List Granule) (n : ℕ) → (n == 0) ≡ true → n ≡ length granules → granules ≡ []
+nothing_there [] n zero size = refl
+nothing_there (g ∷ gs) n zero size =
+    let none : n ≡ 0 = grind (arith, nat_tests, zero) in
+    absurd (omega (arith, none, size))
+
+-- what passes a test is among those that do
+kept_among : (p : Granule → Bool) (gs : List Granule) (g : Granule) → p g ≡ true → has same_granule gs g ≡ true → has same_granule (filter p gs) g ≡ true
+kept_among p [] g is there = there
+kept_among p (h ∷ gs) g is there = elim (cases_Bool (same_granule g h)) [
+  | inl same ↦
+      let passes : p h ≡ true = ap p (sym (same_granule-equal g h same)) ∙ is in
+      ap (λ b. has same_granule (cond b (h ∷ filter p gs) (filter p gs)) g) passes ∙ or_left _ _ same
+  | inr other ↦ either (p h) (kept_among p gs g is (ap (λ b. b || has same_granule gs g) (sym other) ∙ there))
+]
+  where
+    either : (b : Bool) → has same_granule (filter p gs) g ≡ true → has same_granule (cond b (h ∷ filter p gs) (filter p gs)) g ≡ true
+    either true rest = or_right _ _ rest
+    either false rest = rest
+
+-- of a need that stands among some granules is left what is left of those that are among what is left of these
+pub left_among : (last : Option Migration) (granules need : List Granule) → list_all (has same_granule granules) need ≡ true
+    → to_move last (filter (has same_granule (to_move last granules)) need) ≡ to_move last need
+left_among None granules need each = refl
+left_among (Some last) granules [] each = refl
+left_among (Some last) granules (g ∷ need) each =
+    let both = and_parts (has same_granule granules g) _ each in
+    let rest = left_among (Some last) granules need both.1 in
+    let left = not_done last granules in
+    elim (cases_Bool (is_done last g)) [
+      | inl done ↦
+          without (has same_granule left g) (filter (has same_granule left) need) done
+          ∙ (rest ∙ ap (λ b. cond (not b) (g ∷ not_done last need) (not_done last need)) (sym done))
+      | inr open ↦
+          let picked : has same_granule left g ≡ true = kept_among (λ h. not (is_done last h)) granules g (ap not open) both.0 in
+          ap (λ b. not_done last (cond b (g ∷ filter (has same_granule left) need) (filter (has same_granule left) need))) picked
+          ∙ ap₂ (λ b gs. cond (not b) (g ∷ gs) gs) refl rest
+    ]
+  where
+    without : (b : Bool) (gs : List Granule) → is_done last g ≡ true → not_done last (cond b (g ∷ gs) gs) ≡ not_done last gs
+    without true gs done = ap (λ b. cond (not b) (g ∷ not_done last gs) (not_done last gs)) done
+    without false gs done = refl

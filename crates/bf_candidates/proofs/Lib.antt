@@ -1,0 +1,3 @@
+mod Left
+mod Needed
+pub mod Sets
