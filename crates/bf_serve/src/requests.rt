@@ -7,9 +7,10 @@ ghost use Rattle.bf_live.specs.Replies.{IsWellBound};
 ghost use Rattle.bf_store.specs.Stores.{AreIndexesOf, IsOf};
 ghost use Rattle.bf_transpose.specs.Covers.{IsCoverOf};
 ghost use Rattle.boxcar.specs.Table.{Shows};
-ghost use Rattle.bf_serve.specs.Requests.{IsPosition, IsPreparedAt, IsRequest};
+ghost use Rattle.bf_serve.specs.Requests.{AreCandidatesOf, IsPosition, IsPreparedAt, IsRequest};
 
-use bf_base::Memory;
+use bf_base::{Granule, Memory};
+use bf_candidates::{candidates_of, cover_among, without};
 use bf_image::{CatalogPass, MigrationPass, Registry, ValueIndexes};
 use bf_locks::{LockName, Mode};
 use bf_machine::Opened;
@@ -63,13 +64,14 @@ impl<N: Opened> Model for Position<N> {
 }
 
 /// A session's next statement, made ready. Contracts see where its session stood, how it is bound, the locks of
-/// its footprint, and its cover; none where nothing of the migration was left to move. The type keeps that all
-/// of this is the statement's own.
+/// its footprint, granules that had moved, and its cover without these; no cover where nothing of the migration was left
+/// to move. The type keeps that all of this is the statement's own.
 #[derive(Drop)]
 pub struct Request<N: Opened> {
     pub(crate) at: Position<N>,
     pub(crate) bound: Bound,
     pub(crate) locks: Vec<(LockName, Mode)>,
+    pub(crate) moved: Vec<Granule>,
     pub(crate) cover: Option<Cover>,
 }
 
@@ -84,10 +86,22 @@ impl<N: Opened> Model for Request<N> {
 
     ghost coded = { Prim.hlevel (codes, bounds.the_row.coded, where_coded migrations.the_row.coded) };
 
-    ghost view = { λ r. record { at = r.at; bound = r.bound; locks = r.locks.items; cover = r.cover } };
+    ghost view = { λ r. record {
+      at = r.at;
+      bound = r.bound;
+      locks = r.locks.items;
+      moved = r.moved.items;
+      cover = r.cover;
+    } };
 
     ghost invariant = { λ r. IsRequest N.registry N.script
-        (record { at = r.at; bound = r.bound; locks = r.locks.items; cover = r.cover }) };
+        (record {
+          at = r.at;
+          bound = r.bound;
+          locks = r.locks.items;
+          moved = r.moved.items;
+          cover = r.cover;
+        }) };
 }
 
 impl<N: Opened> Position<N> {
@@ -153,7 +167,14 @@ impl<N: Opened> Request<N> {
         self.locks.as_slice()
     }
 
-    /// What it needs moved, whether it has moved or not. `None` where nothing of the migration was left to move.
+    /// Granules that had moved when it was made ready, which its cover leaves out.
+    pub fn moved(&self) -> &[Granule]
+        ensures { result.now ≡ self.now.moved }
+    {
+        self.moved.as_slice()
+    }
+
+    /// What it needs moved but for those, whether it has moved or not. `None` where nothing of the migration was left to move.
     pub fn cover(&self) -> Option<&Cover>
         ensures { option_map (λ cover. cover.now) result ≡ self.now.cover }
     {
@@ -188,8 +209,8 @@ fn bound_at<N: Opened>(
     )
 }
 
-/// The cover of a statement that is bound at a position: none exactly where there is a migration, and no old rows
-/// by their values are at hand. A statement that can need nothing of the migration costs nothing.
+/// The cover of a statement that is bound at a position, as far as no granule has to be found: none where there is a migration of
+/// which it can need something.
 ///
 /// # Errors
 /// Where memory runs out.
@@ -198,11 +219,9 @@ fn cover_at<N: Opened>(
     registry: &Registry,
     at: &Position<N>,
     bound: &Bound,
-    lookups: Option<&ValueIndexes>,
 ) -> Result<Option<Cover>, Memory>
     requires registry { registry.now ≡ N.registry }
     requires well_bound { IsWellBound bound.now.action }
-    requires lookups { IfSome lookups (λ found. AreIndexesOf at.now.migration found.now) }
     ensures cover { IfOk result (λ cover. IfSome cover
         (IsCoverOf (option_map (λ pass. pass.value) at.now.migration) bound.now)) }
 {
@@ -210,21 +229,15 @@ fn cover_at<N: Opened>(
         return Ok(Some(cover_of(alloc, bound, None)?));
     };
     let last = registry.migration(pass);
-    match lookups {
-        Some(indexes) => Ok(Some(cover_of(alloc, bound, Some((last, indexes)))?)),
-        None if can_need(bound, last) => Ok(None),
-        None => Ok(Some(Cover {
-            catalog: bound.catalog,
-            migration: last.number,
-            granules: Vec::new(alloc),
-        })),
+    if can_need(bound, last) {
+        return Ok(None);
     }
+    Ok(Some(Cover::empty(alloc, bound, last)))
 }
 
 impl<N: Opened> Request<N> {
-    /// The statement at a position, made ready: bound, with its locks, and with its cover by the old rows of the
-    /// last migration by their values, where anything of it may be left to move. It costs what
-    /// [`bf_plan::prepare`] and [`bf_transpose::cover_of`] do, and waits for nobody.
+    /// The statement at a position, made ready: bound, with its locks, and with its cover where no granule has to be found. It
+    /// costs what [`bf_plan::prepare`] does, and waits for nobody.
     ///
     /// # Errors
     /// Where memory runs out.
@@ -233,21 +246,120 @@ impl<N: Opened> Request<N> {
         registry: &Registry,
         script: &Script,
         at: Position<N>,
-        lookups: Option<&ValueIndexes>,
     ) -> Result<Request<N>, Memory>
         requires registry { registry.now ≡ N.registry }
         requires script { script.now ≡ N.script }
-        requires lookups { IfSome lookups (λ found. AreIndexesOf at.migration found.now) }
         ensures { IfOk result (λ request. request.at ≡ at) }
     {
         let bound = bound_at(alloc, registry, script, &at)?;
         let locks = footprint(alloc, &bound)?;
-        let cover = cover_at(alloc, registry, &at, &bound, lookups)?;
+        let cover = cover_at(alloc, registry, &at, &bound)?;
         Ok(Request {
             at,
             bound,
             locks,
+            moved: Vec::new(alloc),
             cover,
+        })
+    }
+
+    /// The granules among which are all that it needs, as its keys tell; none where it fixes no key, or there is no migration. It
+    /// costs what [`bf_candidates::candidates_of`] does.
+    ///
+    /// # Errors
+    /// Where memory runs out.
+    pub(crate) fn candidates(
+        &self,
+        alloc: Global,
+        registry: &Registry,
+    ) -> Result<Option<Vec<Granule>>, Memory>
+        requires registry { registry.now ≡ N.registry }
+        ensures { IfOk result (λ found. IfSome found
+            (λ granules. AreCandidatesOf self.now granules.items)) }
+    {
+        match &self.at.migration {
+            Some(pass) => candidates_of(alloc, &self.bound, registry.migration(pass)),
+            None => Ok(None),
+        }
+    }
+
+    /// The statement with its whole cover, by the old rows of the last migration by their values. It costs what
+    /// [`bf_transpose::cover_of`] does, and waits for nobody.
+    ///
+    /// # Errors
+    /// Where memory runs out.
+    pub(crate) fn covered(
+        self,
+        alloc: Global,
+        registry: &Registry,
+        indexes: &ValueIndexes,
+    ) -> Result<Request<N>, Memory>
+        requires registry { registry.now ≡ N.registry }
+        requires indexes { AreIndexesOf self.at.migration indexes.now }
+        ensures { IfOk result (λ request. request.at ≡ self.at) }
+    {
+        let Some(pass) = &self.at.migration else {
+            return Ok(self);
+        };
+        let last = registry.migration(pass);
+        let cover = cover_of(alloc, &self.bound, Some((last, indexes)))?;
+        Ok(Request {
+            moved: Vec::new(alloc),
+            cover: Some(cover),
+            ..self
+        })
+    }
+
+    /// The statement with a cover of no granules, where all its candidates have moved.
+    pub(crate) fn all_moved(
+        self,
+        alloc: Global,
+        registry: &Registry,
+        candidates: Vec<Granule>,
+    ) -> Request<N>
+        requires registry { registry.now ≡ N.registry }
+        requires candidates { AreCandidatesOf self candidates.items }
+        ensures { result.at ≡ self.at }
+    {
+        let Some(pass) = &self.at.migration else {
+            return self;
+        };
+        let cover = Cover::empty(alloc, &self.bound, registry.migration(pass));
+        Request {
+            moved: candidates,
+            cover: Some(cover),
+            ..self
+        }
+    }
+
+    /// The statement with its cover but for those of its candidates that are not left, by the old rows of the last migration by
+    /// their values. It costs what [`bf_candidates::cover_among`] does, and waits for nobody.
+    ///
+    /// # Errors
+    /// Where memory runs out.
+    pub(crate) fn covered_among(
+        self,
+        alloc: Global,
+        registry: &Registry,
+        indexes: &ValueIndexes,
+        candidates: Vec<Granule>,
+        left: &[Granule],
+    ) -> Result<Request<N>, Memory>
+        requires registry { registry.now ≡ N.registry }
+        requires indexes { AreIndexesOf self.at.migration indexes.now }
+        requires candidates { AreCandidatesOf self candidates.items }
+        ensures { IfOk result (λ request. request.at ≡ self.at) }
+    {
+        let Some(pass) = &self.at.migration else {
+            return Ok(self);
+        };
+        let last = registry.migration(pass);
+        let cover = cover_among(alloc, &self.bound, last, indexes, left)?;
+        let moved = without(alloc, candidates, left)?;
+        Ok(Request {
+            moved,
+            cover: Some(cover),
+            ..self
         })
     }
 }

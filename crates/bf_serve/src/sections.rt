@@ -277,10 +277,14 @@ pub(crate) fn run_statement<N: Opened>(
         migration: 0,
         granules: Vec::new(alloc),
     };
-    match request.cover() {
-        Some(cover) => run_ready(registry, machine, request, cover),
-        None => run_ready(registry, machine, request, &nothing),
+    let Some(cover) = request.cover() else {
+        return run_ready(registry, machine, request, &nothing);
+    };
+    let left = machine.need(alloc, request.moved())?;
+    if !left.is_empty() {
+        return Ok(Ran::Elsewhere);
     }
+    run_ready(registry, machine, request, cover)
 }
 
 /// Commits a session's group, adds the catalog to the registry where it has changed, and tells whether it has.

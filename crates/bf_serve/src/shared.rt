@@ -5,6 +5,7 @@ ghost use Rattle.std.specs.Arc.{arc_value};
 ghost use Rattle.boxcar.specs.Table.{Shows};
 ghost use Rattle.bf_machine.specs.interleaving.Calls.{IsPlace};
 ghost use Rattle.bf_bench.specs.Notes.{fresh};
+ghost use Rattle.bf_serve.specs.Requests.{AreCandidatesOf};
 ghost use Rattle.bf_serve.specs.Seats.{Hold, IsFreshSeatOf};
 ghost use Rattle.bf_serve.specs.Steps.{IsStep};
 
@@ -182,16 +183,46 @@ impl<'r, 'g, N: Beginning<J>, J: Journal, R: Wait, G: Gate> Shared<'r, 'g, N, J,
         }
     }
 
-    /// A statement made ready, by the old rows of the migration by their values where something of it is left to move.
+    /// A statement made ready, with what it needs where something of the migration is left to move. Where it fixes keys, one look under
+    /// the lock tells which of its candidates are left, before rows of any are made.
     fn make_ready(&self, at: Position<N>, is_left: bool) -> Result<Request<N>, Memory> {
-        if let Some(pass) = at.migration()
-            && is_left
-        {
-            let lookups = self.lookups(pass)?;
-            let indexes = Some(lookups.indexes());
-            return Request::of(self.alloc, self.registry, &self.script, at, indexes);
+        let request = Request::of(self.alloc, self.registry, &self.script, at)?;
+        if !is_left || request.cover().is_some() {
+            return Ok(request);
         }
-        Request::of(self.alloc, self.registry, &self.script, at, None)
+        match request.candidates(self.alloc, self.registry)? {
+            Some(candidates) => self.cover_among(request, candidates),
+            None => self.cover(request),
+        }
+    }
+
+    /// A statement with its whole cover, by the old rows of its migration by their values.
+    fn cover(&self, request: Request<N>) -> Result<Request<N>, Memory> {
+        let Some(pass) = request.at().migration() else {
+            return Ok(request);
+        };
+        let lookups = self.lookups(pass)?;
+        request.covered(self.alloc, self.registry, lookups.indexes())
+    }
+
+    /// A statement with its cover but for those of its candidates that have moved. Nothing is looked for where all have.
+    fn cover_among(
+        &self,
+        request: Request<N>,
+        candidates: Vec<Granule>,
+    ) -> Result<Request<N>, Memory>
+        requires { AreCandidatesOf request candidates.items }
+    {
+        let left = self.engine.lock(self.rt).left(&candidates)?;
+        if left.is_empty() {
+            return Ok(request.all_moved(self.alloc, self.registry, candidates));
+        }
+        let Some(pass) = request.at().migration() else {
+            return Ok(request);
+        };
+        let lookups = self.lookups(pass)?;
+        let indexes = lookups.indexes();
+        request.covered_among(self.alloc, self.registry, indexes, candidates, &left)
     }
 
     /// Asks for the locks of a request, one after the other, each in a section of its own; and tells how the turn ends

@@ -132,3 +132,18 @@ left_among (Some last) granules (g ∷ need) each =
     without : (b : Bool) (gs : List Granule) → is_done last g ≡ true → not_done last (cond b (g ∷ gs) gs) ≡ not_done last gs
     without true gs done = ap (λ b. cond (not b) (g ∷ not_done last gs) (not_done last gs)) done
     without false gs done = refl
+
+-- of a need without granules of which none is left, as much is left
+pub left_without : (last : Option Migration) (moved need : List Granule) → to_move last moved ≡ [] → to_move last (filter (λ g. not (has same_granule moved g)) need) ≡ to_move last need
+left_without None moved need none = refl
+left_without (Some last) moved [] none = refl
+left_without (Some last) moved (g ∷ need) none =
+    let rest = left_without (Some last) moved need none in
+    let others : List Granule = filter (λ h. not (has same_granule moved h)) need in
+    elim (cases_Bool (has same_granule moved g)) [
+      | inl there ↦
+          let done : is_done last g ≡ true = has_if_within moved (granules_done last) g (done_if_none_left last moved none) there in
+          ap (λ b. not_done last (cond (not b) (g ∷ others) others)) there ∙ (rest ∙ ap (λ b. cond (not b) (g ∷ not_done last need) (not_done last need)) (sym done))
+      | inr other ↦
+          ap (λ b. not_done last (cond (not b) (g ∷ others) others)) other ∙ ap (λ gs. cond (not (is_done last g)) (g ∷ gs) gs) rest
+    ]
