@@ -3,7 +3,6 @@ pub mod Catalogs
 pub mod Coming
 pub mod Copying
 pub mod Going
-pub mod Leaving
 pub mod Making
 pub mod Moving
 pub mod Needing

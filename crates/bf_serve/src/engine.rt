@@ -465,14 +465,6 @@ impl<N: Beginning<J>, J: Journal> Engine<N, J> {
         Ok((asked, *count))
     }
 
-    /// Those of some granules of the last migration that have not moved.
-    ///
-    /// # Errors
-    /// Where memory runs out.
-    pub(crate) fn left(&self, granules: &[Granule]) -> Result<Vec<Granule>, Memory> {
-        self.machine.need(self.alloc, granules)
-    }
-
     /// Replies to a statement that was made ready, and tells how much has happened by then.
     ///
     /// # Errors

@@ -10,13 +10,12 @@ ghost use Rattle.boxcar.specs.Table.{Shows};
 ghost use Rattle.bf_serve.specs.Requests.{AreCandidatesOf, IsPosition, IsPreparedAt, IsRequest};
 
 use bf_base::{Granule, Memory};
-use bf_candidates::{candidates_of, cover_among, without};
 use bf_image::{CatalogPass, MigrationPass, Registry, ValueIndexes};
 use bf_locks::{LockName, Mode};
 use bf_machine::Opened;
 use bf_plan::prepare;
 use bf_sql::footprint;
-use bf_transpose::{Cover, can_need, cover_of};
+use bf_transpose::{Cover, can_need, candidates_of, cover_of};
 use bf_tree::{Bound, Script};
 use std::alloc::Global;
 use std::marker::{Model, PhantomData};
@@ -64,15 +63,15 @@ impl<N: Opened> Model for Position<N> {
 }
 
 /// A session's next statement, made ready. Contracts see where its session stood, how it is bound, the locks of
-/// its footprint, granules that had moved, and its cover without these; no cover where nothing of the migration was left
-/// to move. The type keeps that all of this is the statement's own.
+/// its footprint, its cover, if it has been made, and its candidates, if its keys tell them. The type keeps that
+/// all of this is the statement's own.
 #[derive(Drop)]
 pub struct Request<N: Opened> {
     pub(crate) at: Position<N>,
     pub(crate) bound: Bound,
     pub(crate) locks: Vec<(LockName, Mode)>,
-    pub(crate) moved: Vec<Granule>,
     pub(crate) cover: Option<Cover>,
+    pub(crate) candidates: Option<Vec<Granule>>,
 }
 
 impl<N: Opened> Model for Request<N> {
@@ -90,8 +89,8 @@ impl<N: Opened> Model for Request<N> {
       at = r.at;
       bound = r.bound;
       locks = r.locks.items;
-      moved = r.moved.items;
       cover = r.cover;
+      candidates = r.candidates;
     } };
 
     ghost invariant = { λ r. IsRequest N.registry N.script
@@ -99,8 +98,8 @@ impl<N: Opened> Model for Request<N> {
           at = r.at;
           bound = r.bound;
           locks = r.locks.items;
-          moved = r.moved.items;
           cover = r.cover;
+          candidates = r.candidates;
         }) };
 }
 
@@ -167,18 +166,20 @@ impl<N: Opened> Request<N> {
         self.locks.as_slice()
     }
 
-    /// Granules that had moved when it was made ready, which its cover leaves out.
-    pub fn moved(&self) -> &[Granule]
-        ensures { result.now ≡ self.now.moved }
-    {
-        self.moved.as_slice()
-    }
-
-    /// What it needs moved but for those, whether it has moved or not. `None` where nothing of the migration was left to move.
+    /// What it needs moved, whether it has moved or not. `None` where that has not been looked for: nothing of the migration
+    /// was left to move, or its candidates are told.
     pub fn cover(&self) -> Option<&Cover>
         ensures { option_map (λ cover. cover.now) result ≡ self.now.cover }
     {
         self.cover.as_ref()
+    }
+
+    /// Granules among which are all that it needs, where the keys tell them that it fixes, and something of the migration was
+    /// left to move.
+    pub fn candidates(&self) -> Option<&Vec<Granule>>
+        ensures { option_map (λ granules. granules.now) result ≡ self.now.candidates }
+    {
+        self.candidates.as_ref()
     }
 }
 
@@ -209,8 +210,8 @@ fn bound_at<N: Opened>(
     )
 }
 
-/// The cover of a statement that is bound at a position, as far as no granule has to be found: none where there is a migration of
-/// which it can need something.
+/// The cover of a statement that is bound at a position, where no granule has to be looked for: none where there is a
+/// migration of which it can need something.
 ///
 /// # Errors
 /// Where memory runs out.
@@ -232,12 +233,40 @@ fn cover_at<N: Opened>(
     if can_need(bound, last) {
         return Ok(None);
     }
-    Ok(Some(Cover::empty(alloc, bound, last)))
+    Ok(Some(Cover {
+        catalog: bound.catalog,
+        migration: last.number,
+        granules: Vec::new(alloc),
+    }))
+}
+
+/// The granules among which are all that a statement needs that is bound at a position, as its keys tell; none where it
+/// fixes no key, where there is no migration, and where nothing of it is left to move.
+///
+/// # Errors
+/// Where memory runs out.
+fn candidates_at<N: Opened>(
+    alloc: Global,
+    registry: &Registry,
+    at: &Position<N>,
+    is_left: bool,
+    bound: &Bound,
+) -> Result<Option<Vec<Granule>>, Memory>
+    requires registry { registry.now ≡ N.registry }
+    requires well_bound { IsWellBound bound.now.action }
+    ensures { IfOk result (λ found. IfSome found
+        (λ granules. AreCandidatesOf at.now.migration bound.now granules.items)) }
+{
+    match &at.migration {
+        Some(pass) if is_left => candidates_of(alloc, bound, registry.migration(pass)),
+        Some(_) | None => Ok(None),
+    }
 }
 
 impl<N: Opened> Request<N> {
-    /// The statement at a position, made ready: bound, with its locks, and with its cover where no granule has to be found. It
-    /// costs what [`bf_plan::prepare`] does, and waits for nobody.
+    /// The statement at a position, made ready: bound, with its locks, with its cover where no granule has to be looked for,
+    /// and with its candidates where its keys tell them and something of the migration is left to move. It costs what
+    /// [`bf_plan::prepare`] and [`bf_transpose::candidates_of`] do, and waits for nobody.
     ///
     /// # Errors
     /// Where memory runs out.
@@ -246,6 +275,7 @@ impl<N: Opened> Request<N> {
         registry: &Registry,
         script: &Script,
         at: Position<N>,
+        is_left: bool,
     ) -> Result<Request<N>, Memory>
         requires registry { registry.now ≡ N.registry }
         requires script { script.now ≡ N.script }
@@ -254,36 +284,17 @@ impl<N: Opened> Request<N> {
         let bound = bound_at(alloc, registry, script, &at)?;
         let locks = footprint(alloc, &bound)?;
         let cover = cover_at(alloc, registry, &at, &bound)?;
+        let candidates = candidates_at(alloc, registry, &at, is_left, &bound)?;
         Ok(Request {
             at,
             bound,
             locks,
-            moved: Vec::new(alloc),
             cover,
+            candidates,
         })
     }
 
-    /// The granules among which are all that it needs, as its keys tell; none where it fixes no key, or there is no migration. It
-    /// costs what [`bf_candidates::candidates_of`] does.
-    ///
-    /// # Errors
-    /// Where memory runs out.
-    pub(crate) fn candidates(
-        &self,
-        alloc: Global,
-        registry: &Registry,
-    ) -> Result<Option<Vec<Granule>>, Memory>
-        requires registry { registry.now ≡ N.registry }
-        ensures { IfOk result (λ found. IfSome found
-            (λ granules. AreCandidatesOf self.now granules.items)) }
-    {
-        match &self.at.migration {
-            Some(pass) => candidates_of(alloc, &self.bound, registry.migration(pass)),
-            None => Ok(None),
-        }
-    }
-
-    /// The statement with its whole cover, by the old rows of the last migration by their values. It costs what
+    /// The statement with its cover, by the old rows of the last migration by their values. It costs what
     /// [`bf_transpose::cover_of`] does, and waits for nobody.
     ///
     /// # Errors
@@ -304,60 +315,6 @@ impl<N: Opened> Request<N> {
         let last = registry.migration(pass);
         let cover = cover_of(alloc, &self.bound, Some((last, indexes)))?;
         Ok(Request {
-            moved: Vec::new(alloc),
-            cover: Some(cover),
-            ..self
-        })
-    }
-
-    /// The statement with a cover of no granules, where all its candidates have moved.
-    pub(crate) fn all_moved(
-        self,
-        alloc: Global,
-        registry: &Registry,
-        candidates: Vec<Granule>,
-    ) -> Request<N>
-        requires registry { registry.now ≡ N.registry }
-        requires candidates { AreCandidatesOf self candidates.items }
-        ensures { result.at ≡ self.at }
-    {
-        let Some(pass) = &self.at.migration else {
-            return self;
-        };
-        let cover = Cover::empty(alloc, &self.bound, registry.migration(pass));
-        Request {
-            moved: candidates,
-            cover: Some(cover),
-            ..self
-        }
-    }
-
-    /// The statement with its cover but for those of its candidates that are not left, by the old rows of the last migration by
-    /// their values. It costs what [`bf_candidates::cover_among`] does, and waits for nobody.
-    ///
-    /// # Errors
-    /// Where memory runs out.
-    pub(crate) fn covered_among(
-        self,
-        alloc: Global,
-        registry: &Registry,
-        indexes: &ValueIndexes,
-        candidates: Vec<Granule>,
-        left: &[Granule],
-    ) -> Result<Request<N>, Memory>
-        requires registry { registry.now ≡ N.registry }
-        requires indexes { AreIndexesOf self.at.migration indexes.now }
-        requires candidates { AreCandidatesOf self candidates.items }
-        ensures { IfOk result (λ request. request.at ≡ self.at) }
-    {
-        let Some(pass) = &self.at.migration else {
-            return Ok(self);
-        };
-        let last = registry.migration(pass);
-        let cover = cover_among(alloc, &self.bound, last, indexes, left)?;
-        let moved = without(alloc, candidates, left)?;
-        Ok(Request {
-            moved,
             cover: Some(cover),
             ..self
         })

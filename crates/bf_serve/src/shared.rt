@@ -5,7 +5,6 @@ ghost use Rattle.std.specs.Arc.{arc_value};
 ghost use Rattle.boxcar.specs.Table.{Shows};
 ghost use Rattle.bf_machine.specs.interleaving.Calls.{IsPlace};
 ghost use Rattle.bf_bench.specs.Notes.{fresh};
-ghost use Rattle.bf_serve.specs.Requests.{AreCandidatesOf};
 ghost use Rattle.bf_serve.specs.Seats.{Hold, IsFreshSeatOf};
 ghost use Rattle.bf_serve.specs.Steps.{IsStep};
 
@@ -164,7 +163,8 @@ impl<'r, 'g, N: Beginning<J>, J: Journal, R: Wait, G: Gate> Shared<'r, 'g, N, J,
         }
     }
 
-    /// Makes a statement ready, and drives it.
+    /// Makes a statement ready, and drives it. Where its keys tell its candidates, its cover is made only once it holds its locks
+    /// and one of them is left to move.
     fn drive(&self, at: Position<N>, is_left: bool) -> Result<Step, Memory>
         ensures { IfOk result (IsStep N.registry) }
     {
@@ -172,57 +172,51 @@ impl<'r, 'g, N: Beginning<J>, J: Journal, R: Wait, G: Gate> Shared<'r, 'g, N, J,
         if let Some(step) = self.ask_for_all(&request)? {
             return Ok(step);
         }
+        if let Some(step) = self.run(&request)? {
+            return Ok(step);
+        }
+        let request = self.cover(request)?;
+        match self.run(&request)? {
+            Some(step) => Ok(step),
+            None => Ok(Step::Again),
+        }
+    }
+
+    /// Runs a statement that has its locks, and tells how the turn ends; none where its cover is to be made first.
+    fn run(&self, request: &Request<N>) -> Result<Option<Step>, Memory>
+        ensures { IfOk result (λ step. IfSome step (IsStep N.registry)) }
+    {
         let (ran, seen) = self
             .engine
             .lock(self.rt)
-            .run_statement(self.registry, &request)?;
+            .run_statement(self.registry, request)?;
         match (ran, request.at().migration()) {
-            (Ran::Replied, _) => Ok(Step::Replied(request.at().place())),
-            (Ran::Need(granules), Some(pass)) => Ok(Step::Need(pass.copy(), granules, seen)),
-            (Ran::Need(_) | Ran::Elsewhere, _) => Ok(Step::Again),
+            (Ran::Replied, _) => Ok(Some(Step::Replied(request.at().place()))),
+            (Ran::Need(granules), Some(pass)) => {
+                Ok(Some(Step::Need(pass.copy(), granules, seen)))
+            }
+            (Ran::Uncovered, _) => Ok(None),
+            (Ran::Need(_) | Ran::Elsewhere, _) => Ok(Some(Step::Again)),
         }
     }
 
-    /// A statement made ready, with what it needs where something of the migration is left to move. Where it fixes keys, one look under
-    /// the lock tells which of its candidates are left, before rows of any are made.
+    /// A statement made ready; with its cover where something of the migration is left to move, and its keys do not tell its
+    /// candidates.
     fn make_ready(&self, at: Position<N>, is_left: bool) -> Result<Request<N>, Memory> {
-        let request = Request::of(self.alloc, self.registry, &self.script, at)?;
-        if !is_left || request.cover().is_some() {
+        let request = Request::of(self.alloc, self.registry, &self.script, at, is_left)?;
+        if !is_left || request.cover().is_some() || request.candidates().is_some() {
             return Ok(request);
         }
-        match request.candidates(self.alloc, self.registry)? {
-            Some(candidates) => self.cover_among(request, candidates),
-            None => self.cover(request),
-        }
+        self.cover(request)
     }
 
-    /// A statement with its whole cover, by the old rows of its migration by their values.
+    /// A statement with its cover, by the old rows of its migration by their values.
     fn cover(&self, request: Request<N>) -> Result<Request<N>, Memory> {
         let Some(pass) = request.at().migration() else {
             return Ok(request);
         };
         let lookups = self.lookups(pass)?;
         request.covered(self.alloc, self.registry, lookups.indexes())
-    }
-
-    /// A statement with its cover but for those of its candidates that have moved. Nothing is looked for where all have.
-    fn cover_among(
-        &self,
-        request: Request<N>,
-        candidates: Vec<Granule>,
-    ) -> Result<Request<N>, Memory>
-        requires { AreCandidatesOf request candidates.items }
-    {
-        let left = self.engine.lock(self.rt).left(&candidates)?;
-        if left.is_empty() {
-            return Ok(request.all_moved(self.alloc, self.registry, candidates));
-        }
-        let Some(pass) = request.at().migration() else {
-            return Ok(request);
-        };
-        let lookups = self.lookups(pass)?;
-        let indexes = lookups.indexes();
-        request.covered_among(self.alloc, self.registry, indexes, candidates, &left)
     }
 
     /// Asks for the locks of a request, one after the other, each in a section of its own; and tells how the turn ends

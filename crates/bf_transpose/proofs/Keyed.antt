@@ -24,11 +24,11 @@ use Rattle.bf_transpose.proofs.Inserted.{inserted, none_inserted}
 use Rattle.bf_transpose.proofs.Granules.{granule_cmp, granules_rise}
 
 module _ {X : Type 0} where
-  pub any_alike : (p q : X → Bool) → ((x : X) → p x ≡ q x) → (xs : List X) → list_any p xs ≡ list_any q xs
+  any_alike : (p q : X → Bool) → ((x : X) → p x ≡ q x) → (xs : List X) → list_any p xs ≡ list_any q xs
   any_alike p q one [] = refl
   any_alike p q one (x ∷ xs) = ap₂ (λ b c. b || c) (one x) (any_alike p q one xs)
 
-  pub filter_alike : (p q : X → Bool) → ((x : X) → p x ≡ q x) → (xs : List X) → filter p xs ≡ filter q xs
+  filter_alike : (p q : X → Bool) → ((x : X) → p x ≡ q x) → (xs : List X) → filter p xs ≡ filter q xs
   filter_alike p q one [] = refl
   filter_alike p q one (x ∷ xs) = ap₂ (λ b zs. cond b (x ∷ zs) zs) (one x) (filter_alike p q one xs)
 
@@ -88,7 +88,7 @@ module _ (old : Database) (m : Migrate) (t : Target) (table : Table) (alike : (t
         any_alike _ _ row_more (part_in old m t.name g)
         ∙ any_of_both (has_key_of table (take i tuples) t) (λ row. same_key key (key_of (target_table old t) row)) (part_in old m t.name g)
 
-    pub all_more : filter (has_one (take (i + 1) tuples)) (granules_of old m) ≡ filter (λ g. has_one (take i tuples) g || owns old m t key g) (granules_of old m)
+    all_more : filter (has_one (take (i + 1) tuples)) (granules_of old m) ≡ filter (λ g. has_one (take i tuples) g || owns old m t key g) (granules_of old m)
     all_more = filter_alike _ _ granule_more (granules_of old m)
 
     pub owner_inserted : (g : Granule) → owner_of old m t key ≡ Some g → insert_key granule_cmp (filter (has_one (take i tuples)) (granules_of old m)) g ≡ filter (has_one (take (i + 1) tuples)) (granules_of old m)

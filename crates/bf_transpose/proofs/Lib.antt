@@ -17,6 +17,7 @@ mod Listed
 mod Looked
 mod Merging
 pub mod Named
+mod Needed
 pub mod Numbered
 mod Outside
 pub mod Owners

@@ -47,16 +47,16 @@ module _ (m : Migration) (lawful : IsLawfulMigration m) (table : Table) where
     among : Contains migrate.targets t
     among = found_among (is_it old table) migrate.targets t is
 
-    pub alike : (target_table old t).key ≡ table.key
+    alike : (target_table old t).key ≡ table.key
     alike = keyed_so old table t (found_passes (is_it old table) migrate.targets t is)
 
-    pub one : (key : List Value) → filter (owns old migrate t key) (granules_of old migrate) ≡ option_to_list (owner_of old migrate t key)
+    one : (key : List Value) → filter (owns old migrate t key) (granules_of old migrate) ≡ option_to_list (owner_of old migrate t key)
     one = one_owner old migrate lawful.lawful t among
 
     names_apart : are_apart same_name (map (λ (x : Target). x.name) migrate.targets) ≡ true
     names_apart = (new_names [] migrate.targets (names_new old migrate lawful.lawful.database lawful.lawful.unobjected)).0
 
-    pub owner_named : (key : List Value) → owner_in m table.name key ≡ owner_of old migrate t key
+    owner_named : (key : List Value) → owner_in m table.name key ≡ owner_of old migrate t key
     owner_named key = ap (option_and_then (λ t. owner_of old migrate t key)) (found_by_name old table migrate.targets t names_apart is)
 
     abbrev pub is_picked : Cond ℕ → Granule → Bool
@@ -78,10 +78,10 @@ module _ (m : Migration) (lawful : IsLawfulMigration m) (table : Table) where
   owning tuples = giving old migrate (target_of old migrate table) (has_key_of table tuples)
 
   module _ (there : IsSome (target_of old migrate table)) where
-    pub its_target : (t : Target) × (target_of old migrate table ≡ Some t)
+    its_target : (t : Target) × (target_of old migrate table ≡ Some t)
     its_target = one_of (target_of old migrate table) there
 
-    pub as_target : (tuples : List (List Value)) → owning tuples ≡ giving old migrate (Some its_target.0) (has_key_of table tuples)
+    as_target : (tuples : List (List Value)) → owning tuples ≡ giving old migrate (Some its_target.0) (has_key_of table tuples)
     as_target tuples = ap (λ o. giving old migrate o (has_key_of table tuples)) its_target.1
 
     pub none_owning : [] ≡ owning []

@@ -1,20 +1,24 @@
 //! The granules from which rows with some keys can come. They are found by look-ups, and no row is made.
 
-ghost use Rattle.std.specs.Prelude.{◌≡◌, ◌<◌, ◌++◌, IfOk, OnOk, Some, length, map, position};
-ghost use Rattle.std.specs.Option.{option_to_list};
+ghost use Rattle.std.specs.Prelude.{◌≡◌, ◌<◌, ◌++◌, IfOk, IfSome, OnOk, Some, length, map, position};
+ghost use Rattle.std.specs.List.{All};
+ghost use Rattle.std.specs.Option.{option_map, option_to_list};
 ghost use Rattle.bf_base.specs.Lists.{same_name};
+ghost use Rattle.bf_base.specs.Tables.{IsKeyWithin, key_of};
 ghost use Rattle.bf_tree.specs.declared.plan.ArmKind.TheVariants.{ByPair};
 ghost use Rattle.bf_sql.specs.migrations.Granules.{granule, rows_unit};
+ghost use Rattle.bf_live.specs.Replies.{IsWellBound};
 ghost use Rattle.bf_image.specs.BoundArms.{IsOfUnit};
 ghost use Rattle.bf_image.specs.Lookup.{behind_tag, places_by};
 ghost use Rattle.bf_image.specs.Migrations.{IsLawfulMigration, old_of, target_at, unit_at};
 ghost use Rattle.bf_image.specs.Owners.{candidates_at};
-ghost use Rattle.bf_transpose.specs.Candidates.{HasOwner, candidate_in, candidates_in, candidates_named};
+ghost use Rattle.bf_transpose.specs.Candidates.{HasNeed, HasOwner, candidate_in, candidates_for, candidates_in, candidates_named, keyed, keys_of};
 
 use crate::scan::has_arm;
-use bf_base::{Granule, Key, Memory, Name, Place, Value};
+use crate::target::target_of;
+use bf_base::{Granule, Key, Memory, Name, Place, Row, Table, Value, key_of};
 use bf_image::{FrozenArm, Migration, granule_of};
-use bf_tree::{ArmKind, Target};
+use bf_tree::{Action, ArmKind, Bound, Target};
 use std::alloc::Global;
 
 /// A key of some values.
@@ -119,7 +123,8 @@ fn by_value(
     }
 }
 
-/// The granule of a unit from which a row with a key of a target can come.
+/// The granule of a unit from which a row with a key of a target can come; none where the unit has no arm
+/// of the target.
 fn in_unit(
     alloc: Global,
     migration: &Migration,
@@ -130,8 +135,11 @@ fn in_unit(
     requires lawful { IsLawfulMigration migration.now }
     requires there { target < length migration.now.plan.migrate.targets }
     ensures { IfOk result (λ found. option_to_list found
-        ≡ candidates_at migration.now (target_at migration.now target) key.now unit) }
+        ≡ candidate_in migration.now target key.now unit) }
 {
+    if !has_arm(migration, unit, target) {
+        return Ok(None);
+    }
     if let Some(arm) = migration.arm_by_values(unit) {
         if arm.target == target {
             return by_value(alloc, migration, unit, &arm, key);
@@ -144,28 +152,8 @@ fn in_unit(
     }
 }
 
-/// The granule of a unit from which a row with a key of a target can come; none where the unit has no arm
-/// of the target.
-fn candidate(
-    alloc: Global,
-    migration: &Migration,
-    unit: u8,
-    target: u8,
-    key: &Key,
-) -> Result<Option<Granule>, Memory>
-    requires lawful { IsLawfulMigration migration.now }
-    requires there { target < length migration.now.plan.migrate.targets }
-    ensures { IfOk result (λ found. option_to_list found
-        ≡ candidate_in migration.now target key.now unit) }
-{
-    if has_arm(migration, unit, target) {
-        return in_unit(alloc, migration, unit, target, key);
-    }
-    Ok(None)
-}
-
 /// Adds the granules from which a row with a key of a target can come, one of each unit at most.
-pub fn add_candidates(
+fn add_candidates(
     alloc: Global,
     migration: &Migration,
     target: u8,
@@ -178,7 +166,7 @@ pub fn add_candidates(
         (found.new.items ≡ found.old.items ++ candidates_in migration.now target key.now) }
 {
     for number in 0..migration.plan.units.len() {
-        if let Some(granule) = candidate(alloc, migration, number as u8, target, key)? {
+        if let Some(granule) = in_unit(alloc, migration, number as u8, target, key)? {
             found.push(granule)?;
         }
     }
@@ -215,4 +203,90 @@ pub fn candidates(
     let mut found = Vec::new(alloc);
     add_candidates(alloc, migration, place as u8, key, &mut found)?;
     Ok(found)
+}
+
+/// The granules from which rows with the keys of some tuples of a table can come, tuple by tuple; none where
+/// the migration does not make the table.
+fn candidates_of_rows(
+    alloc: Global,
+    migration: &Migration,
+    table: &Table,
+    rows: &[Row],
+) -> Result<Vec<Granule>, Memory>
+    requires lawful { IsLawfulMigration migration.now }
+    requires within { All (IsKeyWithin table.now) rows.now }
+    ensures { IfOk result (λ found. found.items
+        ≡ candidates_for migration.now (table.now, map (key_of table.now) rows.now)) }
+{
+    let mut found = Vec::new(alloc);
+    let Some(target) = target_of(migration, table) else {
+        return Ok(found);
+    };
+    for row in rows {
+        let key = key_of(alloc, table, row)?;
+        add_candidates(alloc, migration, target, &key, &mut found)?;
+    }
+    Ok(found)
+}
+
+/// The granules from which a row of a table with the key that a condition fixes can come, if it fixes one; none
+/// where the migration does not make the table.
+fn candidates_of_fixed(
+    alloc: Global,
+    migration: &Migration,
+    table: &Table,
+    fixed: &Option<Key>,
+) -> Result<Option<Vec<Granule>>, Memory>
+    requires { IsLawfulMigration migration.now }
+    ensures { IfOk result (λ found. option_map (λ granules. granules.items) found
+        ≡ option_map (candidates_for migration.now) (keyed table.now fixed.now)) }
+{
+    let Some(key) = fixed else {
+        return Ok(None);
+    };
+    let mut found = Vec::new(alloc);
+    let Some(target) = target_of(migration, table) else {
+        return Ok(Some(found));
+    };
+    add_candidates(alloc, migration, target, key, &mut found)?;
+    Ok(Some(found))
+}
+
+/// The granules among which are all that a statement needs, as its keys tell: of an INSERT those from which rows
+/// with the keys of its tuples can come, and of a statement whose condition fixes the key of its table
+/// those of that key. `None` exactly where a statement fixes no key. For each key and each unit it costs two
+/// look-ups by key, and no row is made.
+///
+/// # Errors
+/// Where memory runs out.
+pub fn candidates_of(
+    alloc: Global,
+    bound: &Bound,
+    migration: &Migration,
+) -> Result<Option<Vec<Granule>>, Memory>
+    requires lawful { IsLawfulMigration migration.now }
+    requires bound { IsWellBound bound.now.action }
+    ensures exact { IfOk result (λ found. option_map (λ granules. granules.items) found
+        ≡ option_map (candidates_for migration.now) (keys_of bound.now.action)) }
+    ensures all { IfOk result (λ found. IfSome found
+        (λ granules. HasNeed migration.now bound.now.action granules.items)) }
+{
+    match &bound.action {
+        Action::Insert { table, rows } => {
+            let found = candidates_of_rows(alloc, migration, table, rows.as_slice())?;
+            Ok(Some(found))
+        }
+        Action::Select { table, fixed, .. }
+        | Action::Update { table, fixed, .. }
+        | Action::Delete { table, fixed, .. } => {
+            candidates_of_fixed(alloc, migration, table, fixed)
+        }
+        Action::Refused(_)
+        | Action::CreateTable(_)
+        | Action::CreateIndex(_)
+        | Action::Migrate(_)
+        | Action::Begin
+        | Action::Commit
+        | Action::Rollback => Ok(None),
+    }
 }

@@ -1,6 +1,6 @@
 //! Covers: what a bound statement needs of the migration under way.
 
-ghost use Rattle.std.specs.Prelude.{◌≡◌, [], IfOk};
+ghost use Rattle.std.specs.Prelude.{◌≡◌, IfOk};
 ghost use Rattle.std.specs.List.{All};
 ghost use Rattle.std.specs.Option.{option_map};
 ghost use Rattle.bf_base.specs.Tables.{IsKeyWithin};
@@ -26,21 +26,6 @@ pub struct Cover {
     pub catalog: u64,
     pub migration: u32,
     pub granules: Vec<Granule>,
-}
-
-impl Cover {
-    /// A cover of no granules, with the numbers of a bound statement and of a migration. Takes no memory.
-    pub fn empty(alloc: Global, bound: &Bound, migration: &Migration) -> Cover
-        ensures catalog { result.catalog ≡ bound.now.catalog }
-        ensures migration { result.migration ≡ migration.now.number }
-        ensures none { result.granules.items ≡ [] }
-    {
-        Cover {
-            catalog: bound.catalog,
-            migration: migration.number,
-            granules: Vec::new(alloc),
-        }
-    }
 }
 
 /// Whether a statement can need anything of a migration: a MIGRATE, and one on a table that the
@@ -114,7 +99,7 @@ fn picked(
 }
 
 /// The granules that an action needs.
-pub fn needed(
+fn needed(
     alloc: Global,
     migration: &Migration,
     indexes: &ValueIndexes,

@@ -8,12 +8,10 @@ pub mod cover;
 mod drivers;
 mod joined;
 mod merge;
-pub mod owning;
+mod owning;
 mod scan;
-pub mod target;
+mod target;
 mod transposed;
 
-pub use by_key::{add_candidates, candidates};
-pub use cover::{Cover, can_need, cover_of, needed};
-pub use owning::listed;
-pub use target::target_of;
+pub use by_key::{candidates, candidates_of};
+pub use cover::{Cover, can_need, cover_of};

@@ -44,17 +44,6 @@ fn owners_of(
     Ok(owners)
 }
 
-/// The granules of a set, in order.
-pub fn listed(alloc: Global, set: BTreeSet<Granule>) -> Result<Vec<Granule>, Memory>
-    ensures { IfOk result (λ granules. granules.items ≡ keys set) }
-{
-    let mut granules = Vec::with_capacity(alloc, set.len())?;
-    for granule in set {
-        granules.push(granule)?;
-    }
-    Ok(granules)
-}
-
 /// The granules that own a key of some rows of a target, in the order of unit and place, each once.
 /// For each row it looks up the key's owner, and compares that with about log n others.
 ///
@@ -77,7 +66,11 @@ pub(crate) fn owning(
         (has_key_of table.now rows.now)) }
 {
     let owners = owners_of(alloc, migration, indexes, table, rows)?;
-    listed(alloc, owners)
+    let mut granules = Vec::with_capacity(alloc, owners.len())?;
+    for granule in owners {
+        granules.push(granule)?;
+    }
+    Ok(granules)
 }
 
 /// Whether one of some rows, each with the number of its target, is of a target and one that a

@@ -18,11 +18,10 @@ fn place_of(tables: &[Table], table: &Table) -> Option<usize>
 
 /// The number of the target that a table is, with its name, its columns and its key, and `None`
 /// exactly where it is none. It compares the tables of the targets, and takes no memory.
-pub fn target_of(migration: &Migration, table: &Table) -> Option<u8>
+pub(crate) fn target_of(migration: &Migration, table: &Table) -> Option<u8>
     requires { IsLawfulMigration migration.now }
     ensures target { option_map (target_at migration.now) result
         ≡ target_of (old_of migration.now) migration.now.plan.migrate table.now }
-    ensures place { result ≡ position (λ made. same_table made table.now) migration.now.plan.tables }
     ensures there { IfSome result (λ number. number < length migration.now.plan.migrate.targets) }
 {
     let Some(place) = place_of(migration.plan.tables.as_slice(), table) else {

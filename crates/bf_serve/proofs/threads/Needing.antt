@@ -14,17 +14,17 @@ use Rattle.bf_sql.specs.migrations.Lazy.{Migration}
 use Rattle.bf_image.specs.declared.migration.Migration.{Migration as Kept}
 use Rattle.bf_store.specs.States.{AreGranules, AreGranulesIfAny, granule_cmp, to_move}
 use Rattle.bf_store.specs.Stores.{IsByPass, migration_of}
-use Rattle.bf_transpose.specs.Covers.{needed_in}
+use Rattle.bf_transpose.specs.Covers.{IsCoverOf, needed_in}
 use Rattle.bf_transpose.specs.declared.cover.Cover.{Cover}
 use Rattle.bf_machine.specs.declared.stand.Step.TheVariants.{Need}
 use Rattle.bf_machine.specs.interleaving.Calls.{IsEnough, IsStep}
 use Rattle.bf_machine.specs.interleaving.Kept.{IsKept}
 use Rattle.bf_machine.specs.interleaving.Machines.{Machine}
 use Rattle.bf_machine.proofs.keeping.Numbers.{prepared_number}
-use Rattle.bf_machine.proofs.served.Enough.{complete_leaves_none, left_without, need_by_pass, nothing_is_enough}
+use Rattle.bf_machine.proofs.served.Enough.{exact_is_enough, nothing_is_enough}
 use Rattle.bf_machine.proofs.served.Needs.{may_move, need_told}
 use Rattle.bf_machine.proofs.served.Records.{left_rises}
-use Rattle.bf_serve.specs.Requests.{AreNeededOf, IsCoverAt, IsCoverWithout, IsReady, IsRequest, Request}
+use Rattle.bf_serve.specs.Requests.{AreNeededOf, IsCoverAt, IsReady, IsRequest, Request}
 
 -- granules of the last migration are those of its pass, whatever of it has moved
 of_pass : (last : Option Migration) (pass : Option (Where Kept)) (gs : List Granule) → IsByPass last pass → AreGranulesIfAny last gs → IfSome pass (λ p. AreGranules (migration_of p.value []) gs)
@@ -45,8 +45,8 @@ both {P} {Q} (Some p) (Some q) same is so = so p.value (subst P (sym (let e : p.
 abbrev pub values : Option (Where Kept) → Option Kept
 values = option_map (λ (p : Where Kept). p.value)
 
-covered_at : (r : Request) (cover : Cover) → r.cover ≡ Some cover → IfSome r.cover (λ c. IsCoverWithout r.moved (values r.at.migration) r.bound c) → IsCoverWithout r.moved (values r.at.migration) r.bound cover
-covered_at r cover is covered = subst (λ (o : Option Cover). IfSome o (λ c. IsCoverWithout r.moved (values r.at.migration) r.bound c)) is covered
+covered_at : (r : Request) (cover : Cover) → r.cover ≡ Some cover → IfSome r.cover (λ c. IsCoverOf (values r.at.migration) r.bound c) → IsCoverOf (values r.at.migration) r.bound cover
+covered_at r cover is covered = subst (λ (o : Option Cover). IfSome o (λ c. IsCoverOf (values r.at.migration) r.bound c)) is covered
 
 module _ {start : Database} (registry : Registry) (m : Machine) (kept : IsKept start m) (r : Request) (is : IsRequest registry m.script r) (ready : IsReady m r) (cover : Cover) (at : IsCoverAt m r cover)
     (pass : Option (Where Kept)) (own : pass ≡ m.pass) where
@@ -55,14 +55,8 @@ module _ {start : Database} (registry : Registry) (m : Machine) (kept : IsKept s
 
   pub enough : IsEnough m (values pass) r.bound cover
   enough = elim at as (λ _. IsEnough m (values pass) r.bound cover) [
-    | inl so ↦
-        ap (to_move m.lazy.last) (covered_at r cover so.0 is.covered)
-        ∙ (left_without m.lazy.last r.moved (needed_in (values r.at.migration) r.bound.action) so.1
-        ∙ ap (λ (o : Option Kept). to_move m.lazy.last (needed_in o r.bound.action)) same)
-    | inr none ↦
-        nothing_is_enough m.lazy.last (values pass) r.bound cover none.1
-        (ap (to_move m.lazy.last) (ap (λ (last : Option Kept). needed_in last r.bound.action) (ap values own) ∙ sym (need_by_pass m.lazy.last m.pass r.bound.action kept.store_valid.by_pass))
-        ∙ complete_leaves_none m.lazy.live m.lazy.last kept.store_valid.seen_as.lazy_state.last none.0 r.bound.action)
+    | inl so ↦ exact_is_enough m.lazy.last (values pass) r.bound cover (subst (λ (o : Option Kept). IsCoverOf o r.bound cover) same (covered_at r cover so is.covered))
+    | inr none ↦ nothing_is_enough m.lazy.last (values pass) r.bound cover none.1 (ap (λ (o : Option Kept). to_move m.lazy.last (needed_in o r.bound.action)) (sym same) ∙ none.0)
   ]
 
   number : r.bound.catalog ≡ m.db.number

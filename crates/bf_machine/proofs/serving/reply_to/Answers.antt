@@ -36,6 +36,9 @@ same_error (Err x) e none same = ap Err same
 not_replied : (r : Result Step Memory) (granules : Vec Granule) → r ≡ Ok (Need granules) → r ≡ Ok Replied → ⊥
 not_replied r granules is e = let clash : ◌≡◌ {A = Result Step Memory} (Ok (Need granules)) (Ok Replied) = sym is ∙ e in cc
 
+pub cover_with-requires-clause-own : goal.cover_with-requires-clause-own
+cover_with-requires-clause-own g c = lent c.as_ref-migration.result ∙ (c.as_ref-migration.ensures.value ∙ c.migration-pass.ensures.pass)
+
 pub cover_with-requires-clause-pass : goal.cover_with-requires-clause-pass
 cover_with-requires-clause-pass g c =
     subst (IsOf g.N.Opened.registry) (sym (lent c.as_ref-migration.result ∙ (c.as_ref-migration.ensures.value ∙ c.migration-pass.ensures.pass))) c.migration-pass.ensures.one

@@ -24,11 +24,11 @@ loop-number-preserved c =
       | in-Some+in_ok-push w ↦
           blocks_more f before so_far _ n c.loop-number.invariant
           (ap (λ (gs : Vec Granule). gs.items) w.found-is ∙ w.in_ok-push.ensures.items
-          ∙ ap (λ (gs : List Granule). so_far ++ gs) (ap option_to_list (sym w.in-Some.is) ∙ c.in_ok-candidate.ensures))
+          ∙ ap (λ (gs : List Granule). so_far ++ gs) (ap option_to_list (sym w.in-Some.is) ∙ c.in_ok-in_unit.ensures))
       | in_default w ↦
           blocks_more f before so_far _ n c.loop-number.invariant
           (ap (λ (gs : Vec Granule). gs.items) w.found-is ∙ sym (append-nil so_far)
-          ∙ ap (λ (gs : List Granule). so_far ++ gs) (ap option_to_list (sym w.in_default.is) ∙ c.in_ok-candidate.ensures))
+          ∙ ap (λ (gs : List Granule). so_far ++ gs) (ap option_to_list (sym w.in_default.is) ∙ c.in_ok-in_unit.ensures))
     ]
 
 pub returns : goal.returns

@@ -8,4 +8,6 @@ use Rattle.bf_store.specs.Stores.{AreIndexesOf}
 use Rattle.bf_serve.proofs.shared.Shared.cover.Goals as goal
 
 pub covered-requires-clause-indexes : goal.covered-requires-clause-indexes
-covered-requires-clause-indexes g c = ?
+covered-requires-clause-indexes g c =
+    subst (λ (pass : Option (Where Migration)). AreIndexesOf pass c.indexes.result.now) c.in-Some.ensures.pass
+    (c.indexes.ensures ∙ ap value_indexes (ap (λ (pass : Where Migration). pass.value) c.deref.ensures ∙ c.in_ok-lookups.ensures))

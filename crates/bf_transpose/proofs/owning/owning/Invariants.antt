@@ -1,5 +1,5 @@
 use Rattle.std.proofs.Common.{◌≡◌}
-use Rattle.bf_transpose.proofs.owning.listed.Given as goal
+use Rattle.bf_transpose.proofs.owning.owning.Given as goal
 
 -- the owners so far
 abbrev pub invariant-loop-granule : goal.invariant-loop-granule

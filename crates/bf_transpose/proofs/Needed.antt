@@ -1,8 +1,8 @@
 -- What a statement needs stands among the candidates of the keys that it fixes.
 use Rattle.std.proofs.Common.{◌≡◌, ℕ, ◌<◌, Bool, true, not, nat_eq, List, [], ◌∷◌, map, flat_map, length, Option, Some, None, refl, sym, ap, subst, ◌∙◌}
-use Rattle.std.specs.Prelude.{position}
+use Rattle.std.specs.Prelude.{IfSome, position}
 use Rattle.std.specs.List.{Contains, list_all, list_any}
-use Rattle.std.specs.Option.{option_map_or}
+use Rattle.std.specs.Option.{option_map, option_map_or}
 use Rattle.std.proofs.lemmas.Bool.{or_left}
 use Rattle.std.proofs.lemmas.List.Quantifiers.{position-Some}
 use Rattle.bf_base.specs.declared.granule.Granule.{Granule}
@@ -25,8 +25,7 @@ use Rattle.bf_image.specs.Migrations.{IsLawfulMigration, old_of, target_at}
 use Rattle.bf_image.specs.declared.migration.Migration.{Migration}
 use Rattle.bf_image.proofs.finding.Owned.{target_unobjected}
 use Rattle.bf_image.proofs.making.Arms.{key-itself}
-use Rattle.bf_transpose.specs.Candidates.{candidates_in}
-use Rattle.bf_candidates.specs.Keys.{HasNeed, candidates_for, keys_of}
+use Rattle.bf_transpose.specs.Candidates.{HasNeed, candidates_for, candidates_in, keys_of}
 use Rattle.bf_transpose.proofs.Possible.{all_picked, one_is_candidate}
 use Rattle.bf_transpose.proofs.Finding.{found_among, found_passes}
 use Rattle.bf_transpose.proofs.Fixed.{key_fixed}
@@ -117,3 +116,11 @@ module _ (m : Migration) (lawful : IsLawfulMigration m) where
       let same : (table, key ∷ []) ≡ pair = cc in
       subst (λ p. HasNeed m (action.Delete table cond (Some key)) (candidates_for m p)) same (by_fixed table cond (Some key) bound key refl)
   need_is_among other bound pair is = absurd cc
+
+  -- so it is of each list of candidates that is told
+  pub all_told : (act : Action) → IsWellBound act → (o : Option (List Granule)) → o ≡ option_map (candidates_for m) (keys_of act) → IfSome o (HasNeed m act)
+  all_told act bound o told = subst (λ p. IfSome p (HasNeed m act)) (sym told) (each (keys_of act) refl)
+    where
+      each : (pairs : Option (Table × List (List Value))) → keys_of act ≡ pairs → IfSome (option_map (candidates_for m) pairs) (HasNeed m act)
+      each None is = tt
+      each (Some pair) is = need_is_among act bound pair is

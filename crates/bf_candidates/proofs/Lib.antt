@@ -1,3 +1,0 @@
-mod Left
-mod Needed
-pub mod Sets
