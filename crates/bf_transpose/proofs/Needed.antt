@@ -1,6 +1,7 @@
 -- What a statement needs stands among the candidates of the keys that it fixes.
 use Rattle.std.proofs.Common.{◌≡◌, ℕ, ◌<◌, Bool, true, not, nat_eq, List, [], ◌∷◌, map, flat_map, length, Option, Some, None, refl, sym, ap, subst, ◌∙◌}
 use Rattle.std.specs.Prelude.{IfSome, position}
+use Rattle.std.specs.Global.{Vec}
 use Rattle.std.specs.List.{Contains, list_all, list_any}
 use Rattle.std.specs.Option.{option_map, option_map_or}
 use Rattle.std.proofs.lemmas.Bool.{or_left}
@@ -18,7 +19,7 @@ use Rattle.bf_tree.specs.declared.migration.Target.{Target}
 use Rattle.bf_sql.specs.Conditions.{fixed_key}
 use Rattle.bf_sql.specs.Database.{Database, same_table}
 use Rattle.bf_sql.specs.migrations.Granules.{granules_of, part_in, same_granule}
-use Rattle.bf_sql.specs.migrations.Need.{giving, has_key_of, may_satisfy, needed_for, target_of, total_places}
+use Rattle.bf_sql.specs.migrations.Need.{giving, has_key_of, may_satisfy, target_of, total_places}
 use Rattle.bf_sql.specs.migrations.Targets.{target_table}
 use Rattle.bf_live.specs.Replies.{IsWellBound}
 use Rattle.bf_image.specs.Migrations.{IsLawfulMigration, old_of, target_at}
@@ -117,10 +118,12 @@ module _ (m : Migration) (lawful : IsLawfulMigration m) where
       subst (λ p. HasNeed m (action.Delete table cond (Some key)) (candidates_for m p)) same (by_fixed table cond (Some key) bound key refl)
   need_is_among other bound pair is = absurd cc
 
-  -- so it is of each list of candidates that is told
-  pub all_told : (act : Action) → IsWellBound act → (o : Option (List Granule)) → o ≡ option_map (candidates_for m) (keys_of act) → IfSome o (HasNeed m act)
-  all_told act bound o told = subst (λ p. IfSome p (HasNeed m act)) (sym told) (each (keys_of act) refl)
+  -- so it is of candidates that are told
+  pub all_told : (act : Action) → IsWellBound act → (found : Option (Vec Granule)) → option_map (λ (granules : Vec Granule). granules.items) found ≡ option_map (candidates_for m) (keys_of act)
+      → IfSome found (λ granules. HasNeed m act granules.items)
+  all_told act bound None told = tt
+  all_told act bound (Some granules) told = each (keys_of act) refl told
     where
-      each : (pairs : Option (Table × List (List Value))) → keys_of act ≡ pairs → IfSome (option_map (candidates_for m) pairs) (HasNeed m act)
-      each None is = tt
-      each (Some pair) is = need_is_among act bound pair is
+      each : (pairs : Option (Table × List (List Value))) → keys_of act ≡ pairs → Some granules.items ≡ option_map (candidates_for m) pairs → HasNeed m act granules.items
+      each None is told = absurd cc
+      each (Some pair) is told = let e : granules.items ≡ candidates_for m pair = cc in subst (HasNeed m act) (sym e) (need_is_among act bound pair is)

@@ -1,4 +1,4 @@
-use Rattle.std.proofs.Common.{◌≡◌, ◌<◌, ◌≤◌, ◌++◌, List, flat_map, length, sym, ap, ◌∙◌, append-nil, arith}
+use Rattle.std.proofs.Common.{◌≡◌, ◌≤◌, ◌++◌, List, flat_map, length, sym, ap, ◌∙◌, append-nil, arith}
 use Rattle.std.specs.Global.{Vec}
 use Rattle.std.specs.List.{range_with_len}
 use Rattle.std.specs.Option.{option_to_list}
@@ -20,15 +20,15 @@ loop-number-preserved c =
     let before = c.args.found.now.items in
     let so_far = c.loop-number.found.items in
     let n = c.loop-number.number in
-    elim c.match-branch.branch [
+    elim c.match-branch-2.branch [
       | in-Some+in_ok-push w ↦
           blocks_more f before so_far _ n c.loop-number.invariant
           (ap (λ (gs : Vec Granule). gs.items) w.found-is ∙ w.in_ok-push.ensures.items
-          ∙ ap (λ (gs : List Granule). so_far ++ gs) (ap option_to_list (sym w.in-Some.is) ∙ c.in_ok-in_unit.ensures))
+          ∙ ap (λ (gs : List Granule). so_far ++ gs) (ap option_to_list (sym w.in-Some.is) ∙ c.in_ok-granule.ensures))
       | in_default w ↦
           blocks_more f before so_far _ n c.loop-number.invariant
           (ap (λ (gs : Vec Granule). gs.items) w.found-is ∙ sym (append-nil so_far)
-          ∙ ap (λ (gs : List Granule). so_far ++ gs) (ap option_to_list (sym w.in_default.is) ∙ c.in_ok-in_unit.ensures))
+          ∙ ap (λ (gs : List Granule). so_far ++ gs) (ap option_to_list (sym w.in_default.is) ∙ c.in_ok-granule.ensures))
     ]
 
 pub returns : goal.returns

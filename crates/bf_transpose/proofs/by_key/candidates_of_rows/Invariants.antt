@@ -1,4 +1,4 @@
-use Rattle.std.proofs.Common.{◌≡◌, flat_map, map, take}
+use Rattle.std.proofs.Common.{◌≡◌, flat_map, take}
 use Rattle.bf_base.specs.Tables.{key_of}
 use Rattle.bf_transpose.specs.Candidates.{candidates_in}
 use Rattle.bf_transpose.proofs.by_key.candidates_of_rows.Given as goal
