@@ -58,9 +58,9 @@ def one():
     yield f"INSERT INTO t VALUES (1, {sum(key % 10 for key in range(MEMBERS))});"
 
 
-def run(words, lines, **how):
+def run(words, lines):
     text = "\n".join(["PHASE; SESSION;", *lines]).encode()
-    return subprocess.run(words, input=text, capture_output=True, check=True, **how)
+    return subprocess.run(words, input=text, capture_output=True, check=True)
 
 
 def instructions(words, lines, folder):
@@ -69,8 +69,10 @@ def instructions(words, lines, folder):
     return int(re.search(rb"Collected : (\d+)", ran.stderr).group(1)), ran.stdout
 
 
-def replies(printed, count):
-    return [line.split(" ", 2)[2] for line in printed.decode().splitlines() if line.startswith("1 ")][-count:]
+def replies(printed, behind):
+    """What is told of each statement behind the first ones, without its number."""
+    told = [line[2:].partition(" ") for line in printed.decode().splitlines() if line.startswith("1.")]
+    return [(int(number) - behind, rest) for number, _, rest in told if int(number) > behind]
 
 
 def compare(name, moved, plain, asked, words, folder):
@@ -79,16 +81,18 @@ def compare(name, moved, plain, asked, words, folder):
         alone, _ = instructions(words, fill, folder)
         took, printed = instructions(words, fill + asked, folder)
         costs.append((took - alone) // len(asked))
-        told.append(printed.decode().splitlines())
+        told.append(replies(printed, len(fill)))
+    if told[0] != told[1]:
+        sys.exit(f"{name} differs")
     print(f"{name:44}{costs[0]:>14,}{costs[1]:>14,}{costs[0] / costs[1]:>8.2f}", flush=True)
-    return told
 
 
 def reopened(program, lines, updates, folder, name):
     log = f"{folder}/{name}"
-    for words, script in (([program, "create", log], None), ([program, "run", log, "--workers", "0"], [*lines, *updates])):
-        subprocess.run(words, check=True, capture_output=True) if script is None else run(words, script)
-    return instructions([program, "run", log, "--workers", "0"], [], folder)[0]
+    subprocess.run([program, "create", log], check=True, capture_output=True)
+    words = [program, "run", log, "--workers", "0"]
+    run(words, [*lines, *updates])
+    return instructions(words, [], folder)[0]
 
 
 def main():
