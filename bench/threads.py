@@ -8,7 +8,8 @@ Takes the program, as `rt run` leaves it, and how many rows a table has:
 Told are the wall time and the processor time of each side, the least of some rounds, and the ratio of the time that
 its mark is about:
 
-    reads        four sessions that read, to one session with all their statements (processor time, 1.3)
+    reads        four sessions that read a row each time, to one session with all their statements (processor time, 1.3)
+    ranges       the same with 200 rows each time (processor time, 1.3)
     commits      four sessions of commits, to one session with all of them (wall time, 1.1)
     moving       the same with two workers that move the rows of a migration beside them (wall time, 2)
     finish       `--finish` that moves every granule, to one SELECT of everything that does (wall time)
@@ -106,6 +107,14 @@ def main():
         one = bench.least([filled], sessions_of(reads, 1), "--workers", "0")
         four = bench.least([filled], sessions_of(reads, SESSIONS), "--workers", "0")
         tell("reads", one, four, 1)
+
+        ranges = [
+            f"SELECT * FROM person WHERE id BETWEEN {n * 13 % (rows - 200)} AND {n * 13 % (rows - 200) + 199};"
+            for n in range(2000)
+        ]
+        one = bench.least([filled], sessions_of(ranges, 1), "--workers", "0")
+        four = bench.least([filled], sessions_of(ranges, SESSIONS), "--workers", "0")
+        tell("ranges", one, four, 1)
 
         writes = [f"UPDATE priv SET balance = {n} WHERE id = {n};" for n in range(2000)]
         both = [filled, SPLIT]

@@ -14,7 +14,7 @@ pub mod log_journal;
 pub mod status;
 pub mod top;
 
-pub use bf_bench::{Choice, Gate, OpenGate, Point};
+pub use bf_bench::{Choice, Gate, News, OpenGate, Point};
 pub use log_journal::LogJournal;
 pub use status::Status;
 pub use top::bullfrog;

@@ -93,6 +93,20 @@ impl Cursor {
     }
 }
 
+/// How many granules a migration has at most: as many as its units have anchors.
+pub(crate) fn most_granules(migration: &Migration) -> u64
+    requires lawful { IsLawfulMigration migration.now }
+{
+    let mut most = 0u64;
+    for unit in 0..migration.plan.units.as_slice().len() {
+        let Ok(unit) = u8::try_from(unit) else {
+            return most;
+        };
+        most = most.saturating_add(positions(migration, unit) as u64);
+    }
+    most
+}
+
 /// The granules at some anchors of a migration, each once, in their order; at most so many.
 ///
 /// # Errors

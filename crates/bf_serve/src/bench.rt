@@ -6,12 +6,12 @@ ghost use Rattle.bf_bench.specs.Notes.{noting};
 ghost use Rattle.bf_machine.specs.interleaving.Calls.{IsPlace};
 ghost use Rattle.bf_serve.specs.Seats.{Hold, IsSeatOf};
 
-use crate::ahead::{Ahead, granules_between};
+use crate::ahead::{Ahead, granules_between, most_granules};
 use crate::engine::{Beginning, MovedWork};
 use crate::seats::Seats;
 use crate::shared::{Shared, Step};
 use bf_base::{Granule, Memory};
-use bf_bench::{Bench, Carried, Gate, Left, Taken, Turn};
+use bf_bench::{Bench, Carried, Gate, Left, News, Taken, Turn};
 use bf_drive::Wip;
 use bf_image::MigrationPass;
 use bf_machine::Journal;
@@ -63,10 +63,9 @@ impl<'r, 'g, N: Beginning<J>, J: Journal, R: Wait, G: Gate> Shared<'r, 'g, N, J,
         let migration = self.registry.migration(work.pass());
         let images = Images::of(self.alloc, migration, indexes, work.granules())?;
         let moved = self
-            .engine
-            .lock(self.rt)
+            .engine()
             .move_granules(self.registry, session, work, indexes, images);
-        self.wake_all();
+        self.wake();
         moved
     }
 
@@ -97,7 +96,10 @@ impl<'r, 'g, N: Beginning<J>, J: Journal, R: Wait, G: Gate> Bench for Shared<'r,
             seats.note_session_ended(self.alloc, session);
             return Ok(Turn::Ended);
         }
-        match self.take_turn(session)? {
+        let mut next = seats.take_next(session);
+        let step = self.take_turn(session, &mut next)?;
+        seats.keep_next(next);
+        match step {
             Step::Again => {
                 seats.note_nothing(self.alloc);
                 Ok(Turn::Again)
@@ -131,7 +133,7 @@ impl<'r, 'g, N: Beginning<J>, J: Journal, R: Wait, G: Gate> Bench for Shared<'r,
     }
 
     fn left(&self, seats: &mut Seats<N>, most: u32) -> Result<Left, Memory> {
-        let ahead = self.engine.lock(self.rt).ahead(self.registry, most)?;
+        let ahead = self.engine().ahead(self.registry, most)?;
         let anchors = match ahead {
             Ahead::Anchors(anchors) => anchors,
             Ahead::Wait(seen) => {
@@ -176,11 +178,19 @@ impl<'r, 'g, N: Beginning<J>, J: Journal, R: Wait, G: Gate> Bench for Shared<'r,
                 return Err(memory);
             }
         };
+        let last = self.registry.migration(work.pass());
+        let news = News::Moved {
+            migration: last.number,
+            granules: work.granules().len() as u32,
+            most: most_granules(last),
+        };
         let moved = self.move_work(seats.session(), &work);
         let wip = work.into_wip();
         match moved {
             Ok(Some(moved)) => {
                 seats.finish(self.rt, wip, moved);
+                self.note_finished();
+                self.gate.tell(news);
                 Ok(Carried::Moved)
             }
             Ok(None) => {

@@ -11,13 +11,13 @@ ghost use Rattle.bf_machine.specs.interleaving.Journals.{AreSaid};
 ghost use Rattle.bf_serve.specs.Come.{HasCome, HasMoved};
 ghost use Rattle.bf_serve.specs.Seats.{IsFreshSeatOf};
 ghost use Rattle.bf_serve.specs.Steps.{IsAhead};
-ghost use Rattle.bf_serve.specs.Sections.{AreNeededIfAny};
+ghost use Rattle.bf_serve.specs.Sections.{AreNeededIfAny, AreNeededIfServed, IsReplied};
 
 use crate::ahead::{Ahead, Anchors, Cursor};
 use crate::requests::{Position, Request};
 use crate::seats::Seat;
 use crate::sections::{Asked, Ran, ask_for, commit, move_for, present_catalog, run_statement};
-use bf_base::Memory;
+use bf_base::{Granule, Memory};
 use bf_image::{CatalogPass, MigrationPass, Registry, ValueIndexes};
 use bf_machine::{Journal, Lookups, Machine, Opened, Stand};
 use bf_store::Images;
@@ -70,9 +70,10 @@ pub struct Engine<N: Beginning<J>, J: Journal> {
     journal: J,
     /// Reads the present catalog. `None` where there was no memory to add it to the registry.
     catalog: Option<CatalogPass>,
-    /// Commits, ended attempts, moves and ended sessions so far.
+    /// Commits, ended attempts, moves and ended sessions so far, and claims that were given back.
     count: u64,
-    /// Of these, those that can give workers something to move, or end them.
+    /// Commits that changed the catalog, claims that have ended or were given back, and ended sessions so far: what can give
+    /// workers something to move, or end them.
     calls: u64,
     phase: Phase,
     /// How many sessions of the phase have not ended.
@@ -114,20 +115,41 @@ pub(crate) struct MovedWork<N: Beginning<J>, J: Journal> {
     ghost moved: { ∥ HasMoved J.Answers N.opening N.begins work.value.pass work.value.granules ∥₁ },
 }
 
+/// How a statement was served that was made ready.
+#[derive(Drop)]
+pub(crate) enum Served {
+    /// It has its reply, and its group goes on.
+    Replied,
+    /// It has its reply, and its group has ended. Where the catalog has changed by it, workers may have something to move.
+    Ended { changes_catalog: bool },
+    /// These granules of the last migration are to move first; and how much had happened by then.
+    Need(Vec<Granule>, u64),
+    /// What it needs of the last migration has to be looked for first.
+    Uncovered,
+    /// It waits for a lock until more has happened than this count tells.
+    Waits(u64),
+    /// An older group has a lock that it needs, and the attempt has ended.
+    Died,
+    /// The machine does not stand there any more, or what it was made ready by has changed.
+    Elsewhere,
+}
+
 /// What a session is to do next.
 pub(crate) enum Due<N: Opened> {
     /// Its next group has begun: its next turn.
     Again,
-    /// Its group has ended, by this COMMIT or ROLLBACK if by one.
-    Ending(Option<u32>),
-    /// Its group has ended, and changed the catalog: workers may have something to move.
-    EndingSchema,
+    /// Its group has ended, by this COMMIT or ROLLBACK if by one. Where the catalog has changed by it, workers may have
+    /// something to move.
+    Ending {
+        by: Option<u32>,
+        changes_catalog: bool,
+    },
     /// It waits until more has happened than this count tells.
     Wait(u64),
     /// Each of its statements has its reply.
     Ended,
-    /// A statement is to be made ready; and whether anything of the last migration is left to move.
-    Statement(Position<N>, bool),
+    /// A statement is to be made ready.
+    Statement(Position<N>),
 }
 
 impl<N: Beginning<J>, J: Journal> Engine<N, J> {
@@ -219,6 +241,11 @@ impl<N: Beginning<J>, J: Journal> Engine<N, J> {
     /// Notes that something has happened that sessions may wait for and workers may rest for.
     fn happened_to_all(&mut self) {
         self.happened();
+        self.calls = self.calls.saturating_add(1);
+    }
+
+    /// Notes that the claims of granules that have moved have ended: from then on workers find what is left behind them.
+    pub(crate) fn note_finished(&mut self) {
         self.calls = self.calls.saturating_add(1);
     }
 
@@ -347,6 +374,28 @@ impl<N: Beginning<J>, J: Journal> Engine<N, J> {
         commit(*alloc, rt, registry, machine, journal, catalog, session)
     }
 
+    /// Commits a session's group, notes that it has ended, and tells whether the catalog has changed by it.
+    ///
+    /// # Errors
+    /// Where memory runs out, or too much has changed.
+    fn end_group<R: Wait>(
+        &mut self,
+        rt: &R,
+        registry: &Registry,
+        session: u32,
+    ) -> Result<bool, Memory>
+        requires registry { registry.now ≡ N.registry }
+        requires place { IsPlace N.script session }
+    {
+        let changes_catalog = self.commit(rt, registry, session)?;
+        if changes_catalog {
+            self.happened_to_all();
+        } else {
+            self.happened();
+        }
+        Ok(changes_catalog)
+    }
+
     /// The COMMIT or ROLLBACK by which a session's group is to end, if by one.
     fn end_of(&self, session: u32) -> Option<u32>
         requires place { IsPlace N.script session }
@@ -359,9 +408,9 @@ impl<N: Beginning<J>, J: Journal> Engine<N, J> {
         self.machine.place(session)
     }
 
-    /// Where a session stands whose next statement is to be made ready, and whether anything of the last migration is
-    /// left to move. `None` where no statement is next, and where there is no pass of the catalog.
-    fn position(&self, session: u32) -> Option<(Position<N>, bool)>
+    /// Where a session stands whose next statement is to be made ready. `None` where no statement is next, and where there is
+    /// no pass of the catalog.
+    fn position(&self, session: u32) -> Option<Position<N>>
         requires place { IsPlace N.script session }
     {
         // Their contracts say that the script is the one that the type names, and that the catalog is a database's.
@@ -375,15 +424,27 @@ impl<N: Beginning<J>, J: Journal> Engine<N, J> {
         };
         let migration = self.machine.migration();
         let is_left = migration.is_some() && !self.machine.is_complete();
-        let at = Position {
+        Some(Position {
             session,
             place,
             in_block: self.machine.is_in_block(session),
             catalog: catalog.copy(),
             migration,
+            is_left,
             opened: PhantomData,
-        };
-        Some((at, is_left))
+        })
+    }
+
+    /// Begins a session's next group where that is what it stands at, and tells where its next statement is to be made
+    /// ready. `None` as for a position.
+    ///
+    /// # Errors
+    /// Where memory runs out.
+    fn begin_and_stand(&mut self, session: u32) -> Result<Option<Position<N>>, Memory>
+        requires place { IsPlace N.script session }
+    {
+        self.begin(session)?;
+        Ok(self.position(session))
     }
 
     /// What a session is to do next; and begins or ends its group, where that is it.
@@ -404,27 +465,29 @@ impl<N: Beginning<J>, J: Journal> Engine<N, J> {
         }
         let _ = self.machine.script();
         match self.machine.stand(session) {
-            Stand::Begin => {
-                self.begin(session)?;
-                Ok(Due::Again)
-            }
+            Stand::Begin => match self.begin_and_stand(session)? {
+                Some(at) => Ok(Due::Statement(at)),
+                None => Ok(Due::Again),
+            },
             Stand::Commit => {
-                let end = self.end_of(session);
-                if self.commit(rt, registry, session)? {
-                    self.happened_to_all();
-                    return Ok(Due::EndingSchema);
-                }
-                self.happened();
-                Ok(Due::Ending(end))
+                let by = self.end_of(session);
+                let changes_catalog = self.end_group(rt, registry, session)?;
+                Ok(Due::Ending {
+                    by,
+                    changes_catalog,
+                })
             }
             Stand::Abort => {
-                let end = self.end_of(session);
+                let by = self.end_of(session);
                 self.abort(session);
                 self.happened();
-                Ok(Due::Ending(end))
+                Ok(Due::Ending {
+                    by,
+                    changes_catalog: false,
+                })
             }
             Stand::Statement(_) => match self.position(session) {
-                Some((at, is_left)) => Ok(Due::Statement(at, is_left)),
+                Some(at) => Ok(Due::Statement(at)),
                 None => Err(Memory),
             },
             Stand::Named(_) | Stand::Later => Ok(Due::Wait(self.count)),
@@ -436,58 +499,143 @@ impl<N: Beginning<J>, J: Journal> Engine<N, J> {
         }
     }
 
-    /// Asks for a lock of a statement that was made ready, and tells how much has happened by then.
+    /// Asks for a lock of a statement that was made ready.
     ///
     /// # Errors
     /// Where memory runs out.
-    pub(crate) fn ask_for(
+    fn ask_for(
         &mut self,
         registry: &Registry,
         request: &Request<N>,
         index: usize,
-    ) -> Result<(Asked, u64), Memory>
+    ) -> Result<Asked, Memory>
         requires registry { registry.now ≡ N.registry }
         requires index { index < length request.now.locks }
     {
         let Engine {
             machine,
             catalog,
-            count,
             ..
         } = self;
         // Their contracts say that the script is the one that the type names, and has the session.
         let _ = machine.script();
         let _ = request.at();
-        let asked = ask_for(registry, machine, catalog, request, index)?;
-        if asked == Asked::Died {
-            *count = count.saturating_add(1);
-        }
-        Ok((asked, *count))
+        ask_for(registry, machine, catalog, request, index)
     }
 
-    /// Replies to a statement that was made ready, and tells how much has happened by then.
+    /// Asks for the locks of a statement that was made ready, one after the other, up to the first that is not granted.
+    ///
+    /// # Errors
+    /// Where memory runs out.
+    fn ask_for_all(&mut self, registry: &Registry, request: &Request<N>) -> Result<Asked, Memory>
+        requires registry { registry.now ≡ N.registry }
+    {
+        for index in 0..request.locks().len() {
+            let asked = self.ask_for(registry, request, index)?;
+            if asked != Asked::Granted {
+                return Ok(asked);
+            }
+        }
+        Ok(Asked::Granted)
+    }
+
+    /// Replies to a statement that was made ready.
     ///
     /// # Errors
     /// Where memory runs out, or 2 ^ 32 rows or more change.
-    pub(crate) fn run_statement(
-        &mut self,
-        registry: &Registry,
-        request: &Request<N>,
-    ) -> Result<(Ran, u64), Memory>
+    fn run_statement(&mut self, registry: &Registry, request: &Request<N>) -> Result<Ran, Memory>
         requires registry { registry.now ≡ N.registry }
-        ensures { IfOk result (λ ran. AreNeededIfAny request.now ran.0) }
+        ensures { IfOk result (AreNeededIfAny request.now) }
     {
         let Engine {
             alloc,
             machine,
             catalog,
-            count,
             ..
         } = self;
         let _ = machine.script();
         let _ = request.at();
-        let ran = run_statement(*alloc, registry, machine, catalog, request)?;
-        Ok((ran, *count))
+        run_statement(*alloc, registry, machine, catalog, request)
+    }
+
+    /// Ends a session's group behind a reply, where no statement of it is left that ends it.
+    ///
+    /// # Errors
+    /// Where memory runs out, or too much has changed.
+    fn end_behind_reply<R: Wait>(
+        &mut self,
+        rt: &R,
+        registry: &Registry,
+        session: u32,
+    ) -> Result<Served, Memory>
+        requires registry { registry.now ≡ N.registry }
+        requires place { IsPlace N.script session }
+        ensures { IfOk result IsReplied }
+    {
+        let _ = self.machine.script();
+        if self.machine.stand(session) != Stand::Commit || self.end_of(session).is_some() {
+            return Ok(Served::Replied);
+        }
+        let changes_catalog = self.end_group(rt, registry, session)?;
+        Ok(Served::Ended { changes_catalog })
+    }
+
+    /// Asks for the locks of a statement that was made ready, replies to it where its group holds them all, and ends its
+    /// group where nothing of it is left.
+    ///
+    /// # Errors
+    /// Where memory runs out, 2 ^ 32 rows or more change, or too much has changed.
+    fn drive<R: Wait>(
+        &mut self,
+        rt: &R,
+        registry: &Registry,
+        request: &Request<N>,
+    ) -> Result<Served, Memory>
+        requires registry { registry.now ≡ N.registry }
+        ensures { IfOk result (AreNeededIfServed request.now) }
+    {
+        match self.ask_for_all(registry, request)? {
+            Asked::Granted => {}
+            Asked::Waits => return Ok(Served::Waits(self.count)),
+            Asked::Died => {
+                self.happened();
+                return Ok(Served::Died);
+            }
+            Asked::Elsewhere => return Ok(Served::Elsewhere),
+        }
+        match self.run_statement(registry, request)? {
+            Ran::Replied => self.end_behind_reply(rt, registry, request.at().session()),
+            Ran::Need(granules) => Ok(Served::Need(granules, self.count)),
+            Ran::Uncovered => Ok(Served::Uncovered),
+            Ran::Elsewhere => Ok(Served::Elsewhere),
+        }
+    }
+
+    /// Serves a statement that was made ready, and tells behind its reply where its session stands then, if at another
+    /// one: the reads of a session so take the lock once a statement.
+    ///
+    /// # Errors
+    /// Where memory runs out, or ran out before, 2 ^ 32 rows or more change, or too much has changed.
+    pub(crate) fn serve<R: Wait>(
+        &mut self,
+        rt: &R,
+        registry: &Registry,
+        request: &Request<N>,
+    ) -> Result<(Served, Option<Position<N>>), Memory>
+        requires registry { registry.now ≡ N.registry }
+        ensures { IfOk result (λ told. AreNeededIfServed request.now told.0) }
+    {
+        if self.out_of_memory {
+            return Err(Memory);
+        }
+        let served = self.drive(rt, registry, request)?;
+        let next = match &served {
+            Served::Replied | Served::Ended { .. } => {
+                self.begin_and_stand(request.at().session())?
+            }
+            _ => None,
+        };
+        Ok((served, next))
     }
 
     /// Does the work that a session needs, or a worker found, as one record of moves, by the images of its granules. `None`
@@ -517,7 +665,7 @@ impl<N: Beginning<J>, J: Journal> Engine<N, J> {
         } = self;
         let _ = machine.script();
         let has_moved = move_for(registry, machine, journal, session, work, indexes, images);
-        self.happened_to_all();
+        self.happened();
         if !has_moved? {
             return Ok(None);
         }

@@ -55,16 +55,22 @@ fn phase_end(sessions: &[Session], from: usize) -> usize
     sessions.len()
 }
 
-/// The number of the session at a place, counted from 1, or of a worker behind all of them; the greatest of its type, which no
-/// session has, where it has none.
-fn number_at(place: usize) -> u32 {
+/// The number of the first session of a script.
+const FIRST_SESSION: u32 = 1;
+
+/// The number of the first worker as an actor, behind those of the 64 sessions that a script has at most.
+const FIRST_WORKER: u32 = 65;
+
+/// The number of the actor at a place of those that are counted from a first one; the greatest of its type, which no session
+/// has, where it has none.
+fn number_from(first: u32, place: usize) -> u32 {
     match u32::try_from(place) {
-        Ok(before) => before.saturating_add(1),
+        Ok(before) => before.saturating_add(first),
         Err(_) => u32::MAX,
     }
 }
 
-/// Serves an actor of the present phase: a session, or behind those a worker.
+/// Serves an actor of the present phase: a worker, or behind those a session.
 ///
 /// # Errors
 /// Where memory runs out, or ran out for another actor. Each actor ends then.
@@ -74,13 +80,15 @@ fn serve_actor<N: Beginning<J>, J: Journal, R: Wait, G: Gate>(
 ) -> Result<(), Memory> {
     let (rt, alloc, gate) = (shared.rt, shared.alloc, shared.gate);
     let phase = shared.phase();
-    let actor = number_at(phase.from.saturating_add(place));
-    let served = if place < phase.sessions {
-        let mut seats = shared.seats_of(actor);
-        serve_session(rt, alloc, shared, gate, &mut seats, actor)
-    } else {
+    let served = if place < phase.workers {
+        let worker = number_from(FIRST_WORKER, place);
         let mut seats = Seats::of(alloc, None);
-        serve_worker(rt, alloc, shared, gate, &mut seats, actor)
+        serve_worker(rt, alloc, shared, gate, &mut seats, worker)
+    } else {
+        let before = phase.from.saturating_add(place - phase.workers);
+        let session = number_from(FIRST_SESSION, before);
+        let mut seats = shared.seats_of(session);
+        serve_session(rt, alloc, shared, gate, &mut seats, session)
     };
     if served.is_err() {
         shared.run_out();
@@ -88,8 +96,9 @@ fn serve_actor<N: Beginning<J>, J: Journal, R: Wait, G: Gate>(
     served
 }
 
-/// Serves so many actors of the present phase at the same time, each on a thread of its own; one alone on the caller's. Its workers
-/// stand behind its sessions: where no thread can be made, one actor is served behind the other.
+/// Serves so many actors of the present phase at the same time, each on a thread of its own; one alone on the caller's. Where a
+/// thread can't be made, an actor is served behind those that stand behind it; so its workers, who stay until all
+/// sessions have ended, stand in front of them.
 ///
 /// # Errors
 /// Where memory runs out. Each thread has ended then.

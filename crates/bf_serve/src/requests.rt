@@ -31,6 +31,8 @@ pub struct Position<N: Opened> {
     pub(crate) in_block: bool,
     pub(crate) catalog: CatalogPass,
     pub(crate) migration: Option<MigrationPass>,
+    /// Whether anything of the migration was left to move.
+    pub(crate) is_left: bool,
     pub(crate) opened: PhantomData<N>,
 }
 
@@ -249,7 +251,6 @@ fn candidates_at<N: Opened>(
     alloc: Global,
     registry: &Registry,
     at: &Position<N>,
-    is_left: bool,
     bound: &Bound,
 ) -> Result<Option<Vec<Granule>>, Memory>
     requires registry { registry.now ≡ N.registry }
@@ -258,7 +259,7 @@ fn candidates_at<N: Opened>(
         (λ granules. AreCandidatesOf at.now.migration bound.now granules.items)) }
 {
     match &at.migration {
-        Some(pass) if is_left => candidates_of(alloc, bound, registry.migration(pass)),
+        Some(pass) if at.is_left => candidates_of(alloc, bound, registry.migration(pass)),
         Some(_) | None => Ok(None),
     }
 }
@@ -275,7 +276,6 @@ impl<N: Opened> Request<N> {
         registry: &Registry,
         script: &Script,
         at: Position<N>,
-        is_left: bool,
     ) -> Result<Request<N>, Memory>
         requires registry { registry.now ≡ N.registry }
         requires script { script.now ≡ N.script }
@@ -284,7 +284,7 @@ impl<N: Opened> Request<N> {
         let bound = bound_at(alloc, registry, script, &at)?;
         let locks = footprint(alloc, &bound)?;
         let cover = cover_at(alloc, registry, &at, &bound)?;
-        let candidates = candidates_at(alloc, registry, &at, is_left, &bound)?;
+        let candidates = candidates_at(alloc, registry, &at, &bound)?;
         Ok(Request {
             at,
             bound,

@@ -11,6 +11,7 @@ ghost use Rattle.bf_trackers.specs.Migrations.{IsGranuleOf};
 ghost use Rattle.bf_serve.specs.Seats.{AreOfSeat, Hold, HoldAtSeat, IsSeat, IsSeatOf};
 
 use crate::engine::{Beginning, MovedWork};
+use crate::requests::Position;
 use bf_base::{Granule, Memory};
 use bf_bench::Taken;
 use bf_drive::Wip;
@@ -66,6 +67,8 @@ pub struct Seats<N: Opened> {
     given_back: u32,
     session_ended: Option<u32>,
     phase_ended: bool,
+    /// Where the session stood behind its last reply.
+    next: Option<Position<N>>,
 }
 
 impl<N: Opened> Model for Seats<N> {
@@ -217,7 +220,26 @@ impl<N: Opened> Seats<N> {
             given_back: 0,
             session_ended: None,
             phase_ended: false,
+            next: None,
         }
+    }
+
+    /// Where a session stood behind its last reply, which is taken out. `None` where that isn't kept.
+    pub(crate) fn take_next(&mut self, session: u32) -> Option<Position<N>>
+        ensures { self.new ≡ self.old }
+    {
+        let at = self.next.take()?;
+        if at.session() == session {
+            return Some(at);
+        }
+        None
+    }
+
+    /// Keeps where the session stands behind a reply.
+    pub(crate) fn keep_next(&mut self, next: Option<Position<N>>)
+        ensures { self.new ≡ self.old }
+    {
+        self.next = next;
     }
 
     /// The session that the actor serves. `None` for a worker.

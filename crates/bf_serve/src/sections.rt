@@ -1,7 +1,7 @@
 //! What a thread does to the machine and its journal in one section under their lock: a lock that it asks for, a statement that has its
 //! reply, a group that ends, granules that move. Each is one event beside the journal, or none.
 
-ghost use Rattle.std.specs.Prelude.{◌≡◌, ◌≢◌, ◌⊎◌, ◌<◌, ℕ, All, IfOk, IfSome, IsSomeAnd, IsTrue, None, Ok, Some, false, length, true};
+ghost use Rattle.std.specs.Prelude.{◌≡◌, ◌≢◌, ◌⊎◌, ◌<◌, ℕ, All, IfOk, IfSome, IsSomeAnd, IsTrue, None, Ok, Some, false, length, nat_eq, not, true};
 ghost use Rattle.std.specs.Option.{option_map};
 ghost use Rattle.boxcar.specs.Table.{Shows};
 ghost use Rattle.bf_image.specs.Migrations.{value_indexes};
@@ -17,7 +17,7 @@ ghost use Rattle.bf_machine.specs.interleaving.Kept.{is_of_log};
 ghost use Rattle.bf_machine.specs.interleaving.Machines.{Open, open_at};
 ghost use Rattle.bf_machine.specs.interleaving.Serving.{LeavesStore};
 ghost use Rattle.bf_serve.specs.Requests.{HoldsAll, IsCoverAt, IsPresentCatalog, IsReady, NeedsNothing, StandsAt};
-ghost use Rattle.bf_serve.specs.Sections.{AreNeededIfAny};
+ghost use Rattle.bf_serve.specs.Sections.{AreNeededIfAny, IsAskedAs};
 
 use crate::catalogs::copy_of;
 use crate::requests::{Position, Request};
@@ -112,6 +112,7 @@ pub(crate) fn ask_for<N: Opened>(
     requires index { index < length request.now.locks }
     ensures leaves { LeavesStore N.opening machine.old machine.new }
     ensures present { IsPresentCatalog N.registry machine.new catalog.now }
+    ensures asked { IfOk result (IsAskedAs N.opening machine.old request.now index machine.new) }
 {
     // Its contract says that the script is the one that the type names, and what a machine keeps.
     let _ = machine.script();
@@ -322,6 +323,8 @@ pub(crate) fn commit<N: Opened, J: Journal, R: Wait>(
     ensures keeps { Keeps J.Answers N.opening machine.old journal.old machine.new
         journal.new }
     ensures present { IsPresentCatalog N.registry machine.new catalog.new }
+    ensures changed { IfOk result (λ has_changed.
+        has_changed ≡ not (nat_eq machine.new.db.number machine.old.db.number)) }
 {
     let number = machine.catalog().number();
     machine.commit(rt, registry, journal, session)?;

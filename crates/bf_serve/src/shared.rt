@@ -8,17 +8,16 @@ ghost use Rattle.bf_bench.specs.Notes.{fresh};
 ghost use Rattle.bf_serve.specs.Seats.{Hold, IsFreshSeatOf};
 ghost use Rattle.bf_serve.specs.Steps.{IsStep};
 
-use crate::engine::{Beginning, Due, Engine, Phase};
+use crate::engine::{Beginning, Due, Engine, Phase, Served};
 use crate::requests::{Position, Request};
 use crate::seats::{Seat, Seats};
-use crate::sections::{Asked, Ran};
 use bf_base::{Granule, Memory};
-use bf_bench::Gate;
+use bf_bench::{Gate, News};
 use bf_image::{MigrationPass, Registry};
 use bf_machine::{Journal, Lookups};
 use bf_tree::Script;
 use std::alloc::Global;
-use std::sync::{Arc, Condvar, Mutex, Wait};
+use std::sync::{Arc, Condvar, Mutex, MutexGuard, Wait};
 
 /// A machine beside its journal under a lock, and what the threads of a run read without it.
 pub struct Shared<'r, 'g, N: Beginning<J>, J: Journal, R: Wait, G: Gate> {
@@ -54,14 +53,19 @@ pub(crate) enum Step {
 }
 
 impl<'r, 'g, N: Beginning<J>, J: Journal, R: Wait, G: Gate> Shared<'r, 'g, N, J, R, G> {
+    /// The engine, once no one else has it.
+    pub(crate) fn engine(&self) -> MutexGuard<'_, Engine<N, J>> {
+        self.engine.lock(self.rt)
+    }
+
     /// A phase begins.
     pub(crate) fn begin_phase(&self, phase: Phase) {
-        self.engine.lock(self.rt).begin_phase(phase);
+        self.engine().begin_phase(phase);
     }
 
     /// The present phase.
     pub(crate) fn phase(&self) -> Phase {
-        self.engine.lock(self.rt).phase()
+        self.engine().phase()
     }
 
     /// Tells sessions that wait that they may go on.
@@ -77,39 +81,41 @@ impl<'r, 'g, N: Beginning<J>, J: Journal, R: Wait, G: Gate> Shared<'r, 'g, N, J,
 
     /// Notes that memory ran out for an actor, so that each other one ends too.
     pub(crate) fn run_out(&self) {
-        self.engine.lock(self.rt).run_out();
+        self.engine().run_out();
         self.wake_all();
+    }
+
+    /// Notes that the claims of granules that have moved have ended, and tells workers that rest.
+    pub(crate) fn note_finished(&self) {
+        self.engine().note_finished();
+        self.called.notify_all();
     }
 
     /// Notes that granules are free again, for which others may wait.
     pub(crate) fn note_given_back(&self) {
-        self.engine.lock(self.rt).note_given_back();
+        self.engine().note_given_back();
         self.wake_all();
     }
 
     /// Notes that granules are free again whose move was refused.
     pub(crate) fn note_refused(&self) {
-        self.engine.lock(self.rt).note_refused();
+        self.engine().note_refused();
         self.wake_all();
     }
 
     /// Waits as a session until more has happened than a count tells, or memory has run out.
     pub(crate) fn wait_for(&self, seen: u64) {
-        let engine = self
-            .happened
-            .wait_while(self.rt, self.engine.lock(self.rt), |engine| {
-                engine.count() <= seen && !engine.is_out_of_memory()
-            });
+        let engine = self.happened.wait_while(self.rt, self.engine(), |engine| {
+            engine.count() <= seen && !engine.is_out_of_memory()
+        });
         drop(engine);
     }
 
     /// Rests as a worker until more has happened that workers rest for than a count tells, or memory has run out.
     pub(crate) fn rest_for(&self, seen: u64) {
-        let engine = self
-            .called
-            .wait_while(self.rt, self.engine.lock(self.rt), |engine| {
-                engine.calls() <= seen && !engine.is_out_of_memory()
-            });
+        let engine = self.called.wait_while(self.rt, self.engine(), |engine| {
+            engine.calls() <= seen && !engine.is_out_of_memory()
+        });
         drop(engine);
     }
 
@@ -131,79 +137,102 @@ impl<'r, 'g, N: Beginning<J>, J: Journal, R: Wait, G: Gate> Shared<'r, 'g, N, J,
         Seats::of(self.alloc, None)
     }
 
-    /// One turn of a session: its next group begins, or its open one ends, or its next statement is made ready and driven until
-    /// it has its reply, waits or dies, or needs granules that have not moved.
-    pub(crate) fn take_turn(&self, session: u32) -> Result<Step, Memory>
-        requires { IsPlace self.now.script session }
+    /// One turn of a session: its open group ends, or its next statement is made ready and served until it has its reply, waits
+    /// or dies, or needs granules that have not moved. It begins with the position that its last turn left, if it left
+    /// one, and leaves the next one behind a reply.
+    pub(crate) fn take_turn(
+        &self,
+        session: u32,
+        next: &mut Option<Position<N>>,
+    ) -> Result<Step, Memory>
+        requires { IsPlace N.script session }
         ensures { IfOk result (IsStep N.registry) }
     {
-        let due = self
-            .engine
-            .lock(self.rt)
-            .next(self.rt, self.registry, session)?;
+        if let Some(at) = next.take() {
+            return self.drive(at, next);
+        }
+        let due = self.engine().next(self.rt, self.registry, session)?;
         match due {
             Due::Again => Ok(Step::Again),
-            Due::Ending(end) => {
-                self.wake();
-                match end {
+            Due::Ending {
+                by,
+                changes_catalog,
+            } => {
+                self.tell_end(changes_catalog);
+                match by {
                     Some(statement) => Ok(Step::Replied(statement)),
                     None => Ok(Step::Again),
                 }
-            }
-            Due::EndingSchema => {
-                self.wake_all();
-                Ok(Step::Again)
             }
             Due::Wait(seen) => Ok(Step::Wait(seen)),
             Due::Ended => {
                 self.wake_all();
                 Ok(Step::Ended)
             }
-            Due::Statement(at, is_left) => self.drive(at, is_left),
+            Due::Statement(at) => self.drive(at, next),
         }
     }
 
-    /// Makes a statement ready, and drives it. Where its keys tell its candidates, its cover is made only once it holds its locks
-    /// and one of them is left to move.
-    fn drive(&self, at: Position<N>, is_left: bool) -> Result<Step, Memory>
+    /// Makes a statement ready, and serves it. Where its keys tell its candidates, its cover is made only once one of them is
+    /// left to move.
+    fn drive(&self, at: Position<N>, next: &mut Option<Position<N>>) -> Result<Step, Memory>
         ensures { IfOk result (IsStep N.registry) }
     {
-        let request = self.make_ready(at, is_left)?;
-        if let Some(step) = self.ask_for_all(&request)? {
-            return Ok(step);
-        }
-        if let Some(step) = self.run(&request)? {
+        let request = self.make_ready(at)?;
+        if let Some(step) = self.serve(&request, next)? {
             return Ok(step);
         }
         let request = self.cover(request)?;
-        match self.run(&request)? {
+        match self.serve(&request, next)? {
             Some(step) => Ok(step),
             None => Ok(Step::Again),
         }
     }
 
-    /// Runs a statement that has its locks, and tells how the turn ends; none where its cover is to be made first.
-    fn run(&self, request: &Request<N>) -> Result<Option<Step>, Memory>
+    /// Serves a statement that was made ready, and tells how the turn ends; none where its cover is to be made first.
+    fn serve(
+        &self,
+        request: &Request<N>,
+        next: &mut Option<Position<N>>,
+    ) -> Result<Option<Step>, Memory>
         ensures { IfOk result (λ step. IfSome step (IsStep N.registry)) }
     {
-        let (ran, seen) = self
-            .engine
-            .lock(self.rt)
-            .run_statement(self.registry, request)?;
-        match (ran, request.at().migration()) {
-            (Ran::Replied, _) => Ok(Some(Step::Replied(request.at().place()))),
-            (Ran::Need(granules), Some(pass)) => {
+        let (served, position) = self.engine().serve(self.rt, self.registry, request)?;
+        *next = position;
+        match (served, request.at().migration()) {
+            (Served::Replied, _) => Ok(Some(Step::Replied(request.at().place()))),
+            (Served::Ended { changes_catalog }, _) => {
+                self.tell_end(changes_catalog);
+                Ok(Some(Step::Replied(request.at().place())))
+            }
+            (Served::Need(granules, seen), Some(pass)) => {
                 Ok(Some(Step::Need(pass.copy(), granules, seen)))
             }
-            (Ran::Uncovered, _) => Ok(None),
-            (Ran::Need(_) | Ran::Elsewhere, _) => Ok(Some(Step::Again)),
+            (Served::Waits(seen), _) => Ok(Some(Step::Wait(seen))),
+            (Served::Died, _) => {
+                self.wake();
+                Ok(Some(Step::Again))
+            }
+            (Served::Uncovered, _) => Ok(None),
+            (Served::Need(..) | Served::Elsewhere, _) => Ok(Some(Step::Again)),
+        }
+    }
+
+    /// Tells those who wait that a group has ended, and the gate; workers too where the catalog has changed by it.
+    fn tell_end(&self, changes_catalog: bool) {
+        self.gate.tell(News::Ended);
+        if changes_catalog {
+            self.wake_all();
+        } else {
+            self.wake();
         }
     }
 
     /// A statement made ready; with its cover where something of the migration is left to move, and its keys do not tell its
     /// candidates.
-    fn make_ready(&self, at: Position<N>, is_left: bool) -> Result<Request<N>, Memory> {
-        let request = Request::of(self.alloc, self.registry, &self.script, at, is_left)?;
+    fn make_ready(&self, at: Position<N>) -> Result<Request<N>, Memory> {
+        let is_left = at.is_left;
+        let request = Request::of(self.alloc, self.registry, &self.script, at)?;
         if !is_left || request.cover().is_some() || request.candidates().is_some() {
             return Ok(request);
         }
@@ -217,29 +246,6 @@ impl<'r, 'g, N: Beginning<J>, J: Journal, R: Wait, G: Gate> Shared<'r, 'g, N, J,
         };
         let lookups = self.lookups(pass)?;
         request.covered(self.alloc, self.registry, lookups.indexes())
-    }
-
-    /// Asks for the locks of a request, one after the other, each in a section of its own; and tells how the turn ends
-    /// where one is not granted.
-    fn ask_for_all(&self, request: &Request<N>) -> Result<Option<Step>, Memory>
-        ensures { IfOk result (λ step. IfSome step (IsStep N.registry)) }
-    {
-        for index in 0..request.locks().len() {
-            let (asked, seen) = self
-                .engine
-                .lock(self.rt)
-                .ask_for(self.registry, request, index)?;
-            match asked {
-                Asked::Granted => {}
-                Asked::Waits => return Ok(Some(Step::Wait(seen))),
-                Asked::Died => {
-                    self.wake();
-                    return Ok(Some(Step::Again));
-                }
-                Asked::Elsewhere => return Ok(Some(Step::Again)),
-            }
-        }
-        Ok(None)
     }
 
     /// The old rows of a migration by their values: those that are shared, or else new ones, which are shared from then on.
@@ -257,7 +263,7 @@ impl<'r, 'g, N: Beginning<J>, J: Journal, R: Wait, G: Gate> Shared<'r, 'g, N, J,
         }
         let made = Arc::new(self.alloc, Lookups::of(self.alloc, self.registry, pass)?)?;
         let shared = Arc::try_clone(&made)?;
-        self.engine.lock(self.rt).share_lookups(shared);
+        self.engine().share_lookups(shared);
         drop(making);
         Ok(made)
     }
@@ -274,7 +280,7 @@ impl<'r, 'g, N: Beginning<J>, J: Journal, R: Wait, G: Gate> Shared<'r, 'g, N, J,
         ensures { IfOk result (λ found. IfSome found
             (λ lookups. (arc_value lookups).value ≡ pass.now.value)) }
     {
-        let kept = self.engine.lock(self.rt).lookups()?;
+        let kept = self.engine().lookups()?;
         match kept {
             Some(found) if found.are_of(self.registry, pass) => Ok(Some(found)),
             _ => Ok(None),
@@ -289,6 +295,6 @@ impl<'r, 'g, N: Beginning<J>, J: Journal, R: Wait, G: Gate> Shared<'r, 'g, N, J,
         requires { Shows N.registry.migrations pass.now }
         ensures { IfOk result (λ seat. IfSome seat (IsFreshSeatOf pass.now.value)) }
     {
-        self.engine.lock(self.rt).seat(self.registry, pass)
+        self.engine().seat(self.registry, pass)
     }
 }

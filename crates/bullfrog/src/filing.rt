@@ -11,8 +11,8 @@ use std::io;
 use std::marker::Model;
 use std::os::unix::fs::FileExt;
 
-/// An open file whose failures are counted. Contracts see the count; what is in the file, and what a crash may
-/// leave of it, is not told.
+/// An open file whose failures are counted, with what the system said of the last one. Contracts see the count; what is
+/// in the file, and what a crash may leave of it, is not told.
 ///
 /// A call that a signal interrupts is made again, and a read or a write of a part goes on behind it. Each other
 /// error ends a call with `Fault`, and so does a read or a write of nothing before all is done.
@@ -20,6 +20,7 @@ use std::os::unix::fs::FileExt;
 pub struct FileDisk {
     file: File,
     faults: u64,
+    said: Option<io::Error>,
 }
 
 impl Model for FileDisk {
@@ -38,7 +39,16 @@ impl FileDisk {
     pub fn new(file: File) -> FileDisk
         ensures { result ≡ 0 }
     {
-        FileDisk { file, faults: 0 }
+        FileDisk {
+            file,
+            faults: 0,
+            said: None,
+        }
+    }
+
+    /// What the system said of the last failure, where there was one.
+    pub fn said(&self) -> Option<io::Error> {
+        self.said
     }
 
     // An answer of the system, with a failure counted.
@@ -48,7 +58,8 @@ impl FileDisk {
     {
         match answer {
             Ok(value) => Ok(value),
-            Err(_) => {
+            Err(error) => {
+                self.said = Some(error);
                 self.faults = self.faults.saturating_add(1);
                 Err(DiskError::Fault)
             }

@@ -1,16 +1,18 @@
 //! `bullfrog run LOG [--workers N] [--retries N] [--finish] [--audit]` runs the script of standard input over the database
 //! that a log keeps, and prints its report;
 //! `bullfrog try` does over an empty database, which is not kept; `bullfrog create LOG` makes an empty log in a file
-//! that is new or empty.
+//! that is new or empty. Behind a status that is not 0 standard error may have a hint, of which nothing is promised.
 #![tactic(auto)]
 
 mod filing;
+mod hinting;
 mod progress;
 mod reading;
 mod shelving;
 mod writing;
 
 use bf_run::{Gate, Status, bullfrog};
+use hinting::Told;
 use progress::Progress;
 use reading::Reading;
 use shelving::FileShelf;
@@ -37,14 +39,14 @@ fn texts(alloc: Global, words: &[String]) -> Result<Vec<&str>, AllocError> {
     words.iter().map(|word| word.as_str()).collect(alloc)
 }
 
-fn serve<R, G: Gate + Sync>(rt: &R, words: &[&str], gate: &G) -> Status
+fn serve<R, G: Gate + Sync>(rt: &R, words: &[&str], gate: &G) -> Told
 where
     R: AllocGlobal + Files<File = File> + Input + Print + Threads + Wait + Sync,
 {
-    let mut source = Reading::new(rt.reader());
+    let mut source = Reading::new(rt.alloc(), rt.reader());
     let mut sink = Writing::new(io::writer(rt));
     let mut shelf = FileShelf::new(rt);
-    bullfrog(
+    let status = bullfrog(
         rt,
         rt.alloc(),
         words,
@@ -52,27 +54,29 @@ where
         &mut sink,
         &mut shelf,
         gate,
-    )
+    );
+    Told::of(rt.alloc(), status, source.given(), shelf.said())
 }
 
 /// Words that are not UTF-8 are served as none, which are wrong too.
-fn run<R, G: Gate + Sync>(rt: &R, gate: &G) -> Status
+fn run<R, G: Gate + Sync>(rt: &R, gate: &G) -> Told
 where
     R: Env + AllocGlobal + Files<File = File> + Input + Print + Threads + Wait + Sync,
 {
     match words(rt) {
         Ok(words) => match texts(rt.alloc(), words.as_slice()) {
             Ok(texts) => serve(rt, texts.as_slice(), gate),
-            Err(_) => Status::Memory,
+            Err(_) => Told::without_hint(Status::Memory),
         },
-        Err(error) if error.kind() == ErrorKind::OutOfMemory => Status::Memory,
+        Err(error) if error.kind() == ErrorKind::OutOfMemory => Told::without_hint(Status::Memory),
         Err(_) => serve(rt, &[], gate),
     }
 }
 
 fn main(rt: HostRuntime) -> ExitCode {
     let progress = Progress::new(rt.stderr());
-    let status = run(&rt, &progress);
+    let told = run(&rt, &progress);
     progress.end();
-    ExitCode::from(status.number())
+    told.show(&rt);
+    ExitCode::from(told.status.number())
 }

@@ -2,15 +2,18 @@
 
 ghost use Rattle.std.specs.Prelude.{◌≡◌, None};
 
+use bf_hints::KeptText;
 use bf_io::{IoError, Source};
+use std::alloc::Global;
 use std::io::Read;
 use std::marker::Model;
 
-/// A reader whose failures are counted. Contracts see the count; what is read is not told.
+/// A reader whose failures are counted, and what it gave, kept for hints. Contracts see the count; what is read is not told.
 #[derive(Drop)]
 pub struct Reading<R: Read + Drop> {
     inner: R,
     faults: u64,
+    given: KeptText,
 }
 
 impl<R: Read + Drop> Model for Reading<R> {
@@ -26,10 +29,19 @@ impl<R: Read + Drop> Model for Reading<R> {
 
 impl<R: Read + Drop> Reading<R> {
     /// The source of what a reader gives from here on.
-    pub fn new(inner: R) -> Reading<R>
+    pub fn new(alloc: Global, inner: R) -> Reading<R>
         ensures { result ≡ 0 }
     {
-        Reading { inner, faults: 0 }
+        Reading {
+            inner,
+            faults: 0,
+            given: KeptText::new(alloc),
+        }
+    }
+
+    /// All that the reader gave, where it was kept.
+    pub fn given(&self) -> Option<&[u8]> {
+        self.given.as_slice()
     }
 }
 
@@ -40,7 +52,10 @@ impl<R: Read + Drop> Source for Reading<R> {
 
     fn read(&mut self, into: &mut [u8]) -> Result<usize, IoError> {
         match self.inner.read(into) {
-            Ok(count) => Ok(count),
+            Ok(count) => {
+                self.given.add(&into[..count]);
+                Ok(count)
+            }
             Err(_) => {
                 self.faults = self.faults.saturating_add(1);
                 Err(IoError::Failed)
@@ -80,7 +95,7 @@ mod tests {
 
     #[test]
     fn counts_a_failing_read(rt: HostRuntime) -> Result<(), Fail> {
-        let mut reading = Reading::new(Failing { reads: 0 });
+        let mut reading = Reading::new(rt.alloc(), Failing { reads: 0 });
         let mut piece = [0; 3];
         assert_eq!(rt; reading.read(&mut piece), Ok(2));
         assert_eq!(rt; piece, *b"ab\0");
@@ -89,6 +104,7 @@ mod tests {
         assert_eq!(rt; reading.faults, 1);
         assert_eq!(rt; reading.read(&mut piece), Ok(2));
         assert_eq!(rt; reading.faults, 1);
+        assert_eq!(rt; reading.given(), Some(b"abab".as_slice()));
         Ok(())
     }
 }

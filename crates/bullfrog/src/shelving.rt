@@ -11,13 +11,14 @@ use std::io;
 use std::marker::Model;
 use std::path::Path;
 
-/// The files of a runtime by path, with the paths of those that are lent, and a count of faults. Contracts see
-/// these; what is in the files is not told.
+/// The files of a runtime by path, with the paths of those that are lent, a count of faults, and what the system said of
+/// the last one. Contracts see the paths and the count; what is in the files is not told.
 #[derive(Drop)]
 pub struct FileShelf<'a, R: Files<File = File> + AllocGlobal> {
     rt: &'a R,
     lent: BTreeSet<String>,
     faults: u64,
+    said: Option<io::Error>,
 }
 
 impl<'a, R: Files<File = File> + AllocGlobal> Model for FileShelf<'a, R> {
@@ -41,7 +42,13 @@ impl<'a, R: Files<File = File> + AllocGlobal> FileShelf<'a, R> {
             rt,
             lent: BTreeSet::new(rt.alloc()),
             faults: 0,
+            said: None,
         }
+    }
+
+    /// What the system said of the last fault, where there was one, of the disks that came back too.
+    pub fn said(&self) -> Option<io::Error> {
+        self.said
     }
 }
 
@@ -87,7 +94,8 @@ impl<'a, R: Files<File = File> + AllocGlobal> Shelf for FileShelf<'a, R> {
                 self.lent.insert(name)?;
                 Ok(FileDisk::new(file))
             }
-            Err(_) => {
+            Err(error) => {
+                self.said = Some(error);
                 self.faults = self.faults.saturating_add(1);
                 Err(DiskError::Fault)
             }
@@ -98,6 +106,7 @@ impl<'a, R: Files<File = File> + AllocGlobal> Shelf for FileShelf<'a, R> {
     fn put_back(&mut self, path: &str, disk: FileDisk) {
         self.lent.remove(path);
         self.faults = self.faults.saturating_add(disk.faults());
+        self.said = disk.said().or(self.said);
     }
 }
 
@@ -106,20 +115,22 @@ mod tests {
     use super::*;
     use std::env::temp_dir;
     use std::fs::remove_file;
+    use std::io::ErrorKind;
     use std::process;
     use std::test::Fail;
 
-    // How many bytes a new shelf finds in a file, and how many faults it met.
-    fn found(rt: &HostRuntime, path: &str) -> (Result<u64, DiskError>, u64) {
+    // How many bytes a new shelf finds in a file, how many faults it met, and of which kind the last one was.
+    fn found(rt: &HostRuntime, path: &str) -> (Result<u64, DiskError>, u64, Option<ErrorKind>) {
         let mut shelf = FileShelf::new(rt);
-        match shelf.take(path) {
+        let len = match shelf.take(path) {
             Ok(mut disk) => {
                 let len = disk.len();
                 shelf.put_back(path, disk);
-                (len, shelf.faults)
+                len
             }
-            Err(e) => (Err(e), shelf.faults),
-        }
+            Err(e) => Err(e),
+        };
+        (len, shelf.faults, shelf.said.map(|said| said.kind()))
     }
 
     // A file that is lent is locked, and keeps what was written.
@@ -131,9 +142,12 @@ mod tests {
         let mut shelf = FileShelf::new(&rt);
         let mut disk = shelf.take(path.as_str())?;
         disk.write_at(0, b"abc")?;
-        assert_eq!(rt; found(&rt, path.as_str()), (Err(DiskError::Fault), 1));
+        assert_eq!(rt;
+            found(&rt, path.as_str()),
+            (Err(DiskError::Fault), 1, Some(ErrorKind::WouldBlock))
+        );
         shelf.put_back(path.as_str(), disk);
-        assert_eq!(rt; found(&rt, path.as_str()), (Ok(3), 0));
+        assert_eq!(rt; found(&rt, path.as_str()), (Ok(3), 0, None));
         remove_file(&rt, path.as_str())?;
         Ok(())
     }
@@ -142,7 +156,7 @@ mod tests {
     fn a_folder_that_is_not_there_is_a_fault(rt: HostRuntime) {
         assert_eq!(rt;
             found(&rt, "/bullfrog/no/folder"),
-            (Err(DiskError::Fault), 1)
+            (Err(DiskError::Fault), 1, Some(ErrorKind::NotFound))
         );
     }
 }

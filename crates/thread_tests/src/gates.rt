@@ -38,7 +38,7 @@ impl Gate for Meeting {
     }
 }
 
-/// Holds the worker behind one session at its claims until a statement of the session has its reply, and the session
+/// Holds the first worker beside one session at its claims until a statement of the session has its reply, and the session
 /// at its claims until the worker has come to its own.
 #[derive(Drop)]
 pub struct Crossing {
@@ -76,12 +76,18 @@ impl Gate for Crossing {
                 self.of_session.fetch_add(granules, Ordering::SeqCst);
                 self.patience.wait_for(&self.worker_claimed);
             }
-            Point::Claimed { granules, .. } => {
+            // Workers are numbered behind the 64 sessions that a script has at most.
+            Point::Claimed {
+                actor: 65,
+                granules,
+                ..
+            } => {
                 if self.worker_claimed.happen() {
                     self.of_worker.store(granules, Ordering::SeqCst);
                 }
                 self.patience.wait_for(&self.replied);
             }
+            Point::Claimed { .. } => {}
             Point::Replied { statement, .. } => {
                 if statement == self.statement {
                     self.replied.happen();

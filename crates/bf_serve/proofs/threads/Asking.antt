@@ -1,5 +1,5 @@
 -- A statement that was made ready is the machine's next one, where the machine still stands there.
-use Rattle.std.proofs.Common.{◌≡◌, ◌⊎◌, ℕ, zero, suc, ◌+◌, ◌-◌, Bool, List, [], ◌∷◌, length, take, Option, Some, None, refl, sym, ap, subst, ◌∙◌, inl, inr}
+use Rattle.std.proofs.Common.{◌≡◌, ◌⊎◌, ℕ, zero, suc, ◌+◌, ◌-◌, ◌<◌, arith, Bool, List, [], ◌∷◌, length, take, Option, Some, None, refl, sym, ap, subst, ◌∙◌, inl, inr}
 use Rattle.std.specs.Prelude.{Contains, IfSome, IsSomeAnd, slice_get}
 use Rattle.std.specs.List.{All, slice_index_or}
 use Rattle.std.specs.Option.{option_map}
@@ -33,6 +33,11 @@ pub read_at : {X : Type 0} (xs : List X) (i : ℕ) (x : X) → slice_get xs i �
 read_at [] i x is = absurd cc
 read_at (y ∷ ys) zero x is = same_Some y x is
 read_at (y ∷ ys) (suc i) x is = read_at ys i x is
+
+pub got_at : {X : Type 0} (xs : List X) (i : ℕ) (x : X) → i < length xs → slice_index_or xs i x ≡ x → slice_get xs i ≡ Some x
+got_at [] i x within is = absurd (omega (arith, within))
+got_at (y ∷ ys) zero x within is = ap Some is
+got_at (y ∷ ys) (suc i) x within is = got_at ys i x (omega (arith, within)) is
 
 -- what is prepared at a position is well bound, and has keys
 pub well_bound_at : (script : Script) (p : Position) (bound : Bound) → IsDatabase (without_rows p.catalog.value) → IsPreparedAt script p bound → IsWellBound bound.action

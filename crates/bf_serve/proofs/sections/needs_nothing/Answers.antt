@@ -26,4 +26,8 @@ returns g c = λ yes.
     let m : Machine = c.args.machine.now in
     let r : Request = c.args.request.now in
     let granules = c.in-Some.candidates.now.items in
-    ?
+    let need = needed_in (values r.at.migration) r.bound.action in
+    let each = subst (λ (o : Option (Vec Granule)). IfSome o (λ gs. AreCandidatesOf r.at.migration r.bound gs.items)) (sym c.candidates.ensures ∙ ap (option_map (λ gs. gs.now)) c.in-Some.is) c.at.ensures.own.candidates in
+    let none : to_move m.lazy.last granules ≡ [] =
+    sym (c.in_ok-left.ensures ∙ ap (to_move m.lazy.last) c.deref.ensures.value) ∙ nothing_there c.in_ok-left.left.items c.in_ok-left.left.len (sym c.is_empty.ensures ∙ yes) (omega (arith, c.in_ok-left.left.ok.0)) in
+    none_among m.lazy.last granules need each none

@@ -17,11 +17,3 @@ invariant_of-self g c =
     let goes = goes_leaving g.J.Journal.Answers g.N.Opened.opening g.N.Beginning.begins g.N.Opened.registry m c.self.inside.journal c.self.inside.catalog i.0 i.3
     c.ask_for.new.machine c.ask_for.ensures.leaves c.ask_for.ensures.present in
     (goes.0, i.1, i.2, goes.1)
-
-pub invariant_of-self-2 : goal.invariant_of-self-2
-invariant_of-self-2 g c =
-    let i = c.self.invariant in
-    let m = c.self.inside.machine in
-    let goes = goes_leaving g.J.Journal.Answers g.N.Opened.opening g.N.Beginning.begins g.N.Opened.registry m c.self.inside.journal c.self.inside.catalog i.0 i.3
-    c.ask_for.new.machine c.ask_for.ensures.leaves c.ask_for.ensures.present in
-    (goes.0, i.1, i.2, goes.1)

@@ -8,8 +8,8 @@ use Rattle.bf_serve.specs.Requests.{IsPresentCatalog}
 use Rattle.bf_serve.proofs.threads.Standing.{is_position}
 use Rattle.bf_serve.proofs.engine.Engine.position.Goals as goal
 
-pub invariant_of-at : goal.invariant_of-at
-invariant_of-at g c =
+pub invariant_of-result : goal.invariant_of-result
+invariant_of-result g c =
     let m = c.self.inside.machine in
     let registry = g.N.Opened.registry in
     let same : m.script ≡ g.N.Opened.script = sym c.script.ensures.script ∙ c.script.ensures.opened in
