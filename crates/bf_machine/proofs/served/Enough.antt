@@ -1,9 +1,8 @@
 -- ENOUGH IS ENOUGH: what is left of it is what is left of the statement's need.
-use Rattle.std.proofs.Common.{◌≡◌, ◌==◌, arith, ℕ, Bool, true, false, not, ◌||◌, cond, List, [], ◌∷◌, filter, length, Option, Some, None, refl, sym, ap, ap₂, ◌∙◌, inl, inr}
+use Rattle.std.proofs.Common.{◌≡◌, ◌==◌, arith, ℕ, true, not, List, [], ◌∷◌, length, Option, Some, None, refl, sym, ap, ◌∙◌}
 use Rattle.std.specs.Prelude.{IsSomeAnd, find}
 use Rattle.std.specs.List.{list_all}
 use Rattle.std.specs.Option.{option_map}
-use Rattle.std.proofs.lemmas.Bool.{and_parts, cases_Bool, or_left, or_right}
 use Rattle.std.proofs.lemmas.Bool.Decides.{nat_tests}
 use Rattle.boxcar.specs.Table.{Where}
 use Rattle.bf_base.specs.declared.granule.Granule.{Granule}
@@ -13,10 +12,9 @@ use Rattle.bf_tree.specs.declared.bound.Bound.{Bound}
 use Rattle.bf_tree.specs.declared.history.Sweep.TheVariants.{Complete}
 use Rattle.bf_sql.specs.Database.{Database}
 use Rattle.bf_sql.specs.migrations.Granules.{granules_of, same_granule}
-use Rattle.bf_sql.specs.migrations.Lazy.{LazyState, Migration, anchored, is_done, not_done, pending, sweep_by, sweep_of}
+use Rattle.bf_sql.specs.migrations.Lazy.{LazyState, Migration, anchored, is_done, pending, sweep_by, sweep_of}
 use Rattle.bf_sql.specs.migrations.Need.{needed_for}
 use Rattle.bf_image.specs.declared.migration.Migration.{Migration as Kept}
-use Rattle.bf_image.proofs.finding.Found.{same_granule-equal}
 use Rattle.bf_image.proofs.items.Lists.{all_so}
 use Rattle.bf_store.specs.States.{IsComplete, IsUnderWayIfAny, granules_done, need_of, to_move}
 use Rattle.bf_store.specs.Stores.{IsByPass}
@@ -95,55 +93,3 @@ nothing_there [] n zero size = refl
 nothing_there (g ∷ gs) n zero size =
     let none : n ≡ 0 = grind (arith, nat_tests, zero) in
     absurd (omega (arith, none, size))
-
--- what passes a test is among those that do
-kept_among : (p : Granule → Bool) (gs : List Granule) (g : Granule) → p g ≡ true → has same_granule gs g ≡ true → has same_granule (filter p gs) g ≡ true
-kept_among p [] g is there = there
-kept_among p (h ∷ gs) g is there = elim (cases_Bool (same_granule g h)) [
-  | inl same ↦
-      let passes : p h ≡ true = ap p (sym (same_granule-equal g h same)) ∙ is in
-      ap (λ b. has same_granule (cond b (h ∷ filter p gs) (filter p gs)) g) passes ∙ or_left _ _ same
-  | inr other ↦ either (p h) (kept_among p gs g is (ap (λ b. b || has same_granule gs g) (sym other) ∙ there))
-]
-  where
-    either : (b : Bool) → has same_granule (filter p gs) g ≡ true → has same_granule (cond b (h ∷ filter p gs) (filter p gs)) g ≡ true
-    either true rest = or_right _ _ rest
-    either false rest = rest
-
--- of a need that stands among some granules is left what is left of those that are among what is left of these
-pub left_among : (last : Option Migration) (granules need : List Granule) → list_all (has same_granule granules) need ≡ true
-    → to_move last (filter (has same_granule (to_move last granules)) need) ≡ to_move last need
-left_among None granules need each = refl
-left_among (Some last) granules [] each = refl
-left_among (Some last) granules (g ∷ need) each =
-    let both = and_parts (has same_granule granules g) _ each in
-    let rest = left_among (Some last) granules need both.1 in
-    let left = not_done last granules in
-    elim (cases_Bool (is_done last g)) [
-      | inl done ↦
-          without (has same_granule left g) (filter (has same_granule left) need) done
-          ∙ (rest ∙ ap (λ b. cond (not b) (g ∷ not_done last need) (not_done last need)) (sym done))
-      | inr open ↦
-          let picked : has same_granule left g ≡ true = kept_among (λ h. not (is_done last h)) granules g (ap not open) both.0 in
-          ap (λ b. not_done last (cond b (g ∷ filter (has same_granule left) need) (filter (has same_granule left) need))) picked
-          ∙ ap₂ (λ b gs. cond (not b) (g ∷ gs) gs) refl rest
-    ]
-  where
-    without : (b : Bool) (gs : List Granule) → is_done last g ≡ true → not_done last (cond b (g ∷ gs) gs) ≡ not_done last gs
-    without true gs done = ap (λ b. cond (not b) (g ∷ not_done last gs) (not_done last gs)) done
-    without false gs done = refl
-
--- of a need without granules of which none is left, as much is left
-pub left_without : (last : Option Migration) (moved need : List Granule) → to_move last moved ≡ [] → to_move last (filter (λ g. not (has same_granule moved g)) need) ≡ to_move last need
-left_without None moved need none = refl
-left_without (Some last) moved [] none = refl
-left_without (Some last) moved (g ∷ need) none =
-    let rest = left_without (Some last) moved need none in
-    let others : List Granule = filter (λ h. not (has same_granule moved h)) need in
-    elim (cases_Bool (has same_granule moved g)) [
-      | inl there ↦
-          let done : is_done last g ≡ true = has_if_within moved (granules_done last) g (done_if_none_left last moved none) there in
-          ap (λ b. not_done last (cond (not b) (g ∷ others) others)) there ∙ (rest ∙ ap (λ b. cond (not b) (g ∷ not_done last need) (not_done last need)) (sym done))
-      | inr other ↦
-          ap (λ b. not_done last (cond (not b) (g ∷ others) others)) other ∙ ap (λ gs. cond (not (is_done last g)) (g ∷ gs) gs) rest
-    ]
