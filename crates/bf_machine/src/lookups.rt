@@ -1,9 +1,11 @@
 //! The old rows of a migration by their values, kept while it is the last one.
 
-ghost use Rattle.std.specs.Prelude.{◌≡◌, IfOk, IsTrue, OnOk, Some};
+ghost use Rattle.std.specs.Prelude.{◌≡◌, [], IfOk, IsTrue, OnOk, Some};
 ghost use Rattle.std.specs.Option.{option_map};
 ghost use Rattle.boxcar.specs.Table.{Shows};
-ghost use Rattle.bf_image.specs.Migrations.{value_indexes};
+ghost use Rattle.bf_image.specs.Migrations.{IsLawfulMigration, value_indexes};
+ghost use Rattle.bf_store.specs.States.{to_move};
+ghost use Rattle.bf_transpose.specs.Covers.{needed_in};
 ghost use Rattle.bf_live.specs.Replies.{IsWellBound};
 ghost use Rattle.bf_store.specs.Stores.{IsOf};
 ghost use Rattle.bf_machine.specs.interleaving.Calls.{IsEnough};
@@ -11,8 +13,8 @@ ghost use Rattle.bf_machine.specs.interleaving.Calls.{IsEnough};
 use crate::machine::Machine;
 use crate::opened::Opened;
 use bf_base::Memory;
-use bf_image::{MigrationPass, Registry, ValueIndexes};
-use bf_transpose::{Cover, can_need, cover_of};
+use bf_image::{Migration, MigrationPass, Registry, ValueIndexes};
+use bf_transpose::{Cover, can_need, candidates_of, cover_of};
 use bf_tree::Bound;
 use std::alloc::Global;
 use std::marker::{Model, PhantomData};
@@ -122,10 +124,43 @@ pub fn look_up<N: Opened>(
     Ok(())
 }
 
-/// What is enough of a bound statement's cover for [`Machine::exec`], by the migration of a pass: its
-/// cover, and the look-ups of the migration are kept where it can need any of it. Nothing is looked for
-/// where it can need none of it, or where nothing of the machine's last migration is left to move. It
-/// costs what [`cover_of`] does, and what [`look_up`] does, where anything is looked for.
+/// Whether nothing that a bound statement needs of the machine's last migration is left to move, as far as that is told
+/// without a row made: nothing of the migration is left, or the statement can need none of it, or it fixes keys, and each
+/// granule has moved from which rows with them can come. It costs what [`candidates_of`] does, and a look-up for each of these.
+///
+/// # Errors
+/// Where memory runs out.
+fn needs_nothing<N: Opened>(
+    alloc: Global,
+    machine: &Machine<N>,
+    last: &Migration,
+    bound: &Bound,
+) -> Result<bool, Memory>
+    requires lawful { IsLawfulMigration last.now }
+    requires own { option_map (λ pass. pass.value) machine.now.pass ≡ Some last.now }
+    requires bound { IsWellBound bound.now.action }
+    ensures { IfOk result (λ nothing. IsTrue nothing →
+        to_move machine.now.lazy.last (needed_in (Some last.now) bound.now.action) ≡ []) }
+{
+    // Its contract says what a machine keeps.
+    let _ = machine.script();
+    if machine.is_complete() {
+        return Ok(true);
+    }
+    if !can_need(bound, last) {
+        return Ok(true);
+    }
+    let Some(candidates) = candidates_of(alloc, bound, last)? else {
+        return Ok(false);
+    };
+    let left = machine.need(alloc, &candidates)?;
+    Ok(left.is_empty())
+}
+
+/// What is enough of a bound statement's cover for [`Machine::exec`], by the pass of the machine's last migration:
+/// its cover, and then the look-ups of the migration are kept; or no granule and no look-up where it is told without a row
+/// made that nothing which the statement needs is left to move. It costs what [`candidates_of`] does, with a look-up for each
+/// of these, and where anything is looked for what [`cover_of`] does, and what [`look_up`] does.
 ///
 /// # Errors
 /// Where memory runs out.
@@ -139,6 +174,7 @@ pub fn cover_with<N: Opened>(
 ) -> Result<Cover, Memory>
     requires registry { registry.now ≡ N.registry }
     requires pass { IsOf N.registry (option_map (λ pass. pass.now) migration) }
+    requires own { option_map (λ pass. pass.now) migration ≡ machine.now.pass }
     requires bound { IsWellBound bound.now.action }
     ensures { IfOk result (IsEnough machine.now
         (option_map (λ pass. pass.now.value) migration.entry) bound.now) }
@@ -147,7 +183,7 @@ pub fn cover_with<N: Opened>(
         return cover_of(alloc, bound, None);
     };
     let last = registry.migration(pass);
-    if machine.is_complete() || !can_need(bound, last) {
+    if needs_nothing(alloc, machine, last, bound)? {
         return Ok(Cover {
             catalog: bound.catalog,
             migration: last.number,

@@ -1,7 +1,7 @@
 -- Keys that no owner is still to move, and rows that are seen under them.
 use Rattle.std.proofs.Common.{◌≡◌, ℕ, Bool, true, false, not, ◌||◌, cond, List, [], ◌∷◌, map, find, length, Option, Some, None, option_map, unwrap_or, is_some, vec_len, ◌==◌, refl, sym, ap, ap₂, subst, ◌∙◌, arith}
 use Rattle.std.specs.Global.{Vec}
-use Rattle.std.specs.Prelude.{IsSome}
+use Rattle.std.specs.Prelude.{IfSome, IsSome, IsTrue}
 use Rattle.std.specs.Option.{option_and_then}
 use Rattle.std.specs.Ordering.{eq_by_cmp}
 use Rattle.std.proofs.lemmas.Bool.{not-true}
@@ -23,20 +23,23 @@ use Rattle.bf_heap.specs.Heaps.{Entry, key_of_entry, row_under}
 use Rattle.bf_tree.specs.declared.history.Sweep.TheVariants.{Never, Complete}
 use Rattle.bf_tree.specs.declared.migration.Target.{Target}
 use Rattle.bf_sql.specs.Database.{Database, Stored, no_table, stored_at, table_at, table_rows}
-use Rattle.bf_sql.specs.migrations.Granules.{owner_of, part_in}
+use Rattle.bf_sql.specs.migrations.Granules.{owner_of, part_in, same_granule}
 use Rattle.bf_sql.specs.migrations.Lazy.{LazyState, Migration, due, is_done, not_done, pending, pending_of, rows_from, seen, sweep_by, sweep_of, view_of}
 use Rattle.bf_live.specs.Meanings.{entries_of}
 use Rattle.bf_image.specs.Migrations.{owner_in}
 use Rattle.bf_image.specs.declared.migration.Migration.{Migration as Kept}
 use Rattle.bf_image.proofs.items.Names.{name-equal}
 use Rattle.bf_live.proofs.statements.Named.{IsThere}
-use Rattle.bf_store.specs.States.{IsLazy, IsUnderWay, IsUnderWayIfAny, is_free, settled_by, to_move}
+use Rattle.bf_store.specs.States.{IsLazy, IsUnderWay, IsUnderWayIfAny, granules_done, is_free, settled_by, to_move}
 use Rattle.bf_store.specs.Stores.{IsByPass, migration_of}
 use Rattle.bf_store.proofs.coming.Found.{none_if_not_found, passes_if_found}
 use Rattle.bf_store.proofs.coming.Owning.{free_is_settled}
 use Rattle.bf_store.proofs.coming.Parts.{elsewhere}
+use Rattle.bf_store.proofs.moving.Completing.{has_if_within}
+use Rattle.bf_store.proofs.moving.Needing.{done_if_none_left}
 use Rattle.bf_store.proofs.moving.Sweeping.{none_pending_if_complete}
 use Rattle.bf_store.proofs.seeing.Viewing.{rows_seen, seen_there}
+use Rattle.bf_transpose.specs.Candidates.{HasOwner}
 use Rattle.bf_recover.specs.Commits.{is_seen}
 
 -- where nothing is pending each key is free
@@ -120,6 +123,17 @@ left_of_one last g need is = on (is_done last g) refl
         let items : need.items ≡ g ∷ [] = is ∙ ap (λ b. cond (not b) (g ∷ []) []) e in
         some_where (vec_len need) (omega (arith, ap (λ (gs : List Granule). length gs) items, need.ok.0)) ∙ sym e
 
+-- a vector of no items
+nothing_there : (need : Vec Granule) → (vec_len need == 0) ≡ true → need.items ≡ []
+nothing_there need empty = none need.items (omega (arith, need.ok.0, length_zero (vec_len need) empty))
+  where
+    length_zero : (n : ℕ) → (n == 0) ≡ true → n ≡ 0
+    length_zero n e = grind (arith, nat_tests)
+
+    none : (gs : List Granule) → length gs ≡ 0 → gs ≡ []
+    none [] size = refl
+    none (g ∷ gs) size = absurd (omega (arith, size))
+
 -- a key of a table, by the pass of the last migration
 module _ (live : Database) (last : Option Migration) (way : IsUnderWayIfAny live last) (now : Option (Where Kept)) (by_pass : IsByPass last now)
     (pass : Where Kept) (is : Some pass ≡ now) (m : Kept) (read : m ≡ pass.value) (name : List ℕ) (stands : IsSome (stored_at live name)) (key : List Value) where
@@ -137,6 +151,17 @@ module _ (live : Database) (last : Option Migration) (way : IsUnderWayIfAny live
 
   pub free_if_unowned : None ≡ owner_in m name key → true ≡ is_free last (table_at live name) key
   free_if_unowned none = free_as last way by_this None none true (λ u at. refl)
+
+  -- where each granule has moved among which the owner is, if there is one
+  pub free_if_all_moved : (granules : List Granule) → HasOwner m name key granules → (need : Vec Granule) → need.items ≡ to_move last granules → (vec_len need == 0) ≡ true
+      → true ≡ is_free last (table_at live name) key
+  free_if_all_moved granules among need left empty =
+      free_as last way by_this (owner_in m name key) refl true
+      (λ u at. settled u (sym (ap (λ o. to_move o granules) at) ∙ (sym left ∙ nothing_there need empty)) (owner_in m name key) among)
+    where
+      settled : (u : Migration) → to_move (Some u) granules ≡ [] → (o : Option Granule) → IfSome o (λ g. IsTrue (has same_granule granules g)) → true ≡ settled_by u o
+      settled u none None there = refl
+      settled u none (Some g) there = sym (has_if_within granules (granules_done u) g (done_if_none_left u granules none) there)
 
   pub free_if_moved : (g : Granule) → Some g ≡ owner_in m name key → (need : Vec Granule) → need.items ≡ to_move last (g ∷ [])
       → (vec_len need == 0) ≡ is_free last (table_at live name) key

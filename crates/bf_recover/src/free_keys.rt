@@ -14,6 +14,7 @@ use crate::lookups::look_up;
 use bf_base::{Key, Memory, Name};
 use bf_image::{Registry, ValueIndexes, owner};
 use bf_store::Store;
+use bf_transpose::candidates;
 use bf_tree::Sweep;
 use bf_txn::Write;
 use std::alloc::Global;
@@ -29,8 +30,9 @@ fn is_running(store: &Store) -> bool
     }
 }
 
-/// Whether no row with a key is still to move into a table. While a migration runs it costs what
-/// [`bf_image::owner`] does, and a look-up of the owner among the granules that have moved.
+/// Whether no row with a key is still to move into a table. While a migration runs it costs what [`candidates`]
+/// does, and a look-up for each of these among the granules that have moved. No row of a granule is made where
+/// each of them has; else it costs what [`bf_image::owner`] does besides.
 ///
 /// # Errors
 /// Where memory runs out.
@@ -57,11 +59,17 @@ pub(crate) fn is_free(
     let Some(pass) = store.migration() else {
         return Ok(true);
     };
+    let last = registry.migration(&pass);
+    let candidates = candidates(alloc, last, table, key)?;
+    let left = store.need(alloc, &candidates)?;
+    if left.is_empty() {
+        return Ok(true);
+    }
     look_up(alloc, registry, &pass, indexes)?;
     let Some(found) = indexes else {
         unreachable!();
     };
-    match owner(alloc, registry.migration(&pass), found, table, key)? {
+    match owner(alloc, last, found, table, key)? {
         Some(granule) => Ok(store.need(alloc, &[granule])?.is_empty()),
         None => Ok(true),
     }

@@ -1,8 +1,9 @@
 -- A STATEMENT THAT IS MADE READY outside the lock: where its session stood, and how it is bound in the catalog of that moment.
-use Rattle.std.specs.Prelude.{◌≡◌, ◌≢◌, ◌⊎◌, ℕ, ◌-◌, ◌<◌, ◌≤◌, Bool, List, [], length, Option, Some, None, IfSome, IsSomeAnd, IsTrue, option_map, slice_get}
-use Rattle.std.specs.List.{All}
+use Rattle.std.specs.Prelude.{◌≡◌, ◌≢◌, ◌⊎◌, ℕ, ◌-◌, ◌<◌, ◌≤◌, Bool, List, [], length, Option, Some, None, IfSome, IsTrue, option_map, slice_get}
+use Rattle.std.specs.Global.{Vec}
+use Rattle.std.specs.List.{All, list_all}
 use Rattle.bf_base.specs.declared.granule.Granule.{Granule}
-use Rattle.bf_base.specs.Lists.{rises}
+use Rattle.bf_base.specs.Lists.{has, rises}
 use Rattle.boxcar.specs.Table.{Shows, Where}
 use Rattle.bf_tree.specs.Catalogs.{Catalog}
 use Rattle.bf_tree.specs.declared.bound.Bound.{Bound}
@@ -12,13 +13,14 @@ use Rattle.bf_sql.specs.Bound.{catalog_of, without_rows}
 use Rattle.bf_sql.specs.Database.{IsDatabase}
 use Rattle.bf_sql.specs.Footprints.{Lock, footprint_of}
 use Rattle.bf_sql.specs.Groups.{session_at}
+use Rattle.bf_sql.specs.migrations.Granules.{same_granule}
 use Rattle.bf_sql.specs.migrations.Plans.{prepared_of}
 use Rattle.bf_image.specs.Registries.{Registry}
 use Rattle.bf_image.specs.declared.migration.Migration.{Migration}
 use Rattle.bf_plan.specs.Limits.{KeepsPlanLimits}
-use Rattle.bf_store.specs.States.{AreGranules, IsComplete, granule_cmp}
+use Rattle.bf_store.specs.States.{AreGranules, granule_cmp, to_move}
 use Rattle.bf_store.specs.Stores.{IsOf, migration_of}
-use Rattle.bf_transpose.specs.Covers.{IsCoverOf}
+use Rattle.bf_transpose.specs.Covers.{IsCoverOf, needed_in}
 use Rattle.bf_transpose.specs.declared.cover.Cover.{Cover}
 use Rattle.bf_machine.specs.declared.stand.Stand.TheVariants as stand
 use Rattle.bf_machine.specs.interleaving.Calls.{IsCovered, IsPlace, StandsAs}
@@ -47,13 +49,18 @@ pub record IsPosition (registry : Registry) (script : Script) (p : Position) : T
   pub database : IsDatabase (without_rows p.catalog.value)
   pub limits : (s : Statement) → statement_at script p.session p.place ≡ Some s → KeepsPlanLimits p.catalog.value s
 
--- REQUEST: the statement as it is prepared at such a position, with the locks of its footprint, and what it needs of the migration; no
--- cover where nothing of the migration was left to move
+-- CANDIDATES: each granule that a statement needs which is bound at a position is among some
+abbrev pub AreCandidatesOf : Option (Where Migration) → Bound → List Granule → Type 0
+AreCandidatesOf migration bound granules = IsTrue (list_all (has same_granule granules) (needed_in (option_map (λ (p : Where Migration). p.value) migration) bound.action))
+
+-- REQUEST: the statement as it is prepared at such a position, with the locks of its footprint; with what it needs of the migration, if that
+-- has been looked for; and with its candidates, if its keys tell them
 pub record Request : Type 0 where
   pub at : Position
   pub bound : Bound
   pub locks : List Lock
   pub cover : Option Cover
+  pub candidates : Option (Vec Granule)
 
 -- how the statement at a position is prepared
 pub record IsPreparedAt (script : Script) (p : Position) (bound : Bound) : Type 0 where
@@ -66,6 +73,7 @@ pub record IsRequest (registry : Registry) (script : Script) (r : Request) : Typ
   pub prepared : IsPreparedAt script r.at r.bound
   pub locks : r.locks ≡ footprint_of r.bound
   pub covered : IfSome r.cover (λ c. IsCoverOf (option_map (λ (p : Where Migration). p.value) r.at.migration) r.bound c)
+  pub candidates : IfSome r.candidates (λ granules. AreCandidatesOf r.at.migration r.bound granules.items)
 
 -- PRESENT: a pass of a registry, if there is one, reads the catalog of a machine
 abbrev pub IsPresentCatalog : Registry → Machine → Option (Where Catalog) → Type 0
@@ -81,17 +89,19 @@ pub record StandsAt (m : Machine) (p : Position) : Type 0 where
 abbrev pub HoldsAll : Machine → Request → Type 0
 HoldsAll m r = All (λ lock. IsCovered m r.at.session lock.0 lock.1) r.locks
 
--- READY: the machine stands at the request, with the same last migration, and where a group is open it holds the locks; a request without a
--- cover is one of a machine in which nothing of that migration is left to move
+-- READY: the machine stands at the request, with the same last migration, and where a group is open it holds the locks
 pub record IsReady (m : Machine) (r : Request) : Type 0 where
   pub stands : StandsAt m r.at
   pub migration : option_map (λ (p : Where Migration). p.value) r.at.migration ≡ option_map (λ (p : Where Migration). p.value) m.pass
   pub held : (o : Open) → open_at m r.at.session ≡ Some o → HoldsAll m r
-  pub complete : r.cover ≡ None → IsSomeAnd m.lazy.last IsComplete
 
--- its cover, or where nothing is left to move no granule
+-- nothing that it needs is left to move
+abbrev pub NeedsNothing : Machine → Request → Type 0
+NeedsNothing m r = to_move m.lazy.last (needed_in (option_map (λ (p : Where Migration). p.value) r.at.migration) r.bound.action) ≡ []
+
+-- its cover, or where it needs nothing that is left to move no granule
 abbrev pub IsCoverAt : Machine → Request → Cover → Type 0
-IsCoverAt m r cover = (r.cover ≡ Some cover) ⊎ (IsSomeAnd m.lazy.last IsComplete × (cover.granules.items ≡ []))
+IsCoverAt m r cover = (r.cover ≡ Some cover) ⊎ (NeedsNothing m r × (cover.granules.items ≡ []))
 
 -- NEEDED: granules of the last migration at the request's position, in the order of unit and place, at least one
 abbrev pub AreNeededOf : Request → List Granule → Type 0

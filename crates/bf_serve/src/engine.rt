@@ -124,6 +124,8 @@ pub(crate) enum Served {
     Ended { changes_catalog: bool },
     /// These granules of the last migration are to move first; and how much had happened by then.
     Need(Vec<Granule>, u64),
+    /// What it needs of the last migration has to be looked for first.
+    Uncovered,
     /// It waits for a lock until more has happened than this count tells.
     Waits(u64),
     /// An older group has a lock that it needs, and the attempt has ended.
@@ -604,6 +606,7 @@ impl<N: Beginning<J>, J: Journal> Engine<N, J> {
         match self.run_statement(registry, request)? {
             Ran::Replied => self.end_behind_reply(rt, registry, request.at().session()),
             Ran::Need(granules) => Ok(Served::Need(granules, self.count)),
+            Ran::Uncovered => Ok(Served::Uncovered),
             Ran::Elsewhere => Ok(Served::Elsewhere),
         }
     }

@@ -7,15 +7,15 @@ ghost use Rattle.bf_live.specs.Replies.{IsWellBound};
 ghost use Rattle.bf_store.specs.Stores.{AreIndexesOf, IsOf};
 ghost use Rattle.bf_transpose.specs.Covers.{IsCoverOf};
 ghost use Rattle.boxcar.specs.Table.{Shows};
-ghost use Rattle.bf_serve.specs.Requests.{IsPosition, IsPreparedAt, IsRequest};
+ghost use Rattle.bf_serve.specs.Requests.{AreCandidatesOf, IsPosition, IsPreparedAt, IsRequest};
 
-use bf_base::Memory;
+use bf_base::{Granule, Memory};
 use bf_image::{CatalogPass, MigrationPass, Registry, ValueIndexes};
 use bf_locks::{LockName, Mode};
 use bf_machine::Opened;
 use bf_plan::prepare;
 use bf_sql::footprint;
-use bf_transpose::{Cover, can_need, cover_of};
+use bf_transpose::{Cover, can_need, candidates_of, cover_of};
 use bf_tree::{Bound, Script};
 use std::alloc::Global;
 use std::marker::{Model, PhantomData};
@@ -65,14 +65,15 @@ impl<N: Opened> Model for Position<N> {
 }
 
 /// A session's next statement, made ready. Contracts see where its session stood, how it is bound, the locks of
-/// its footprint, and its cover; none where nothing of the migration was left to move. The type keeps that all
-/// of this is the statement's own.
+/// its footprint, its cover, if it has been made, and its candidates, if its keys tell them. The type keeps that
+/// all of this is the statement's own.
 #[derive(Drop)]
 pub struct Request<N: Opened> {
     pub(crate) at: Position<N>,
     pub(crate) bound: Bound,
     pub(crate) locks: Vec<(LockName, Mode)>,
     pub(crate) cover: Option<Cover>,
+    pub(crate) candidates: Option<Vec<Granule>>,
 }
 
 impl<N: Opened> Model for Request<N> {
@@ -86,10 +87,22 @@ impl<N: Opened> Model for Request<N> {
 
     ghost coded = { Prim.hlevel (codes, bounds.the_row.coded, where_coded migrations.the_row.coded) };
 
-    ghost view = { λ r. record { at = r.at; bound = r.bound; locks = r.locks.items; cover = r.cover } };
+    ghost view = { λ r. record {
+      at = r.at;
+      bound = r.bound;
+      locks = r.locks.items;
+      cover = r.cover;
+      candidates = r.candidates;
+    } };
 
     ghost invariant = { λ r. IsRequest N.registry N.script
-        (record { at = r.at; bound = r.bound; locks = r.locks.items; cover = r.cover }) };
+        (record {
+          at = r.at;
+          bound = r.bound;
+          locks = r.locks.items;
+          cover = r.cover;
+          candidates = r.candidates;
+        }) };
 }
 
 impl<N: Opened> Position<N> {
@@ -155,11 +168,20 @@ impl<N: Opened> Request<N> {
         self.locks.as_slice()
     }
 
-    /// What it needs moved, whether it has moved or not. `None` where nothing of the migration was left to move.
+    /// What it needs moved, whether it has moved or not. `None` where that has not been looked for: nothing of the migration
+    /// was left to move, or its candidates are told.
     pub fn cover(&self) -> Option<&Cover>
         ensures { option_map (λ cover. cover.now) result ≡ self.now.cover }
     {
         self.cover.as_ref()
+    }
+
+    /// Granules among which are all that it needs, where the keys tell them that it fixes, and something of the migration was
+    /// left to move.
+    pub fn candidates(&self) -> Option<&Vec<Granule>>
+        ensures { option_map (λ granules. granules.now) result ≡ self.now.candidates }
+    {
+        self.candidates.as_ref()
     }
 }
 
@@ -190,8 +212,8 @@ fn bound_at<N: Opened>(
     )
 }
 
-/// The cover of a statement that is bound at a position: none exactly where there is a migration, and no old rows
-/// by their values are at hand. A statement that can need nothing of the migration costs nothing.
+/// The cover of a statement that is bound at a position, where no granule has to be looked for: none where there is a
+/// migration of which it can need something.
 ///
 /// # Errors
 /// Where memory runs out.
@@ -200,11 +222,9 @@ fn cover_at<N: Opened>(
     registry: &Registry,
     at: &Position<N>,
     bound: &Bound,
-    lookups: Option<&ValueIndexes>,
 ) -> Result<Option<Cover>, Memory>
     requires registry { registry.now ≡ N.registry }
     requires well_bound { IsWellBound bound.now.action }
-    requires lookups { IfSome lookups (λ found. AreIndexesOf at.now.migration found.now) }
     ensures cover { IfOk result (λ cover. IfSome cover
         (IsCoverOf (option_map (λ pass. pass.value) at.now.migration) bound.now)) }
 {
@@ -212,21 +232,42 @@ fn cover_at<N: Opened>(
         return Ok(Some(cover_of(alloc, bound, None)?));
     };
     let last = registry.migration(pass);
-    match lookups {
-        Some(indexes) => Ok(Some(cover_of(alloc, bound, Some((last, indexes)))?)),
-        None if can_need(bound, last) => Ok(None),
-        None => Ok(Some(Cover {
-            catalog: bound.catalog,
-            migration: last.number,
-            granules: Vec::new(alloc),
-        })),
+    if can_need(bound, last) {
+        return Ok(None);
+    }
+    Ok(Some(Cover {
+        catalog: bound.catalog,
+        migration: last.number,
+        granules: Vec::new(alloc),
+    }))
+}
+
+/// The granules among which are all that a statement needs that is bound at a position, as its keys tell; none where it
+/// fixes no key, where there is no migration, and where nothing of it is left to move.
+///
+/// # Errors
+/// Where memory runs out.
+fn candidates_at<N: Opened>(
+    alloc: Global,
+    registry: &Registry,
+    at: &Position<N>,
+    bound: &Bound,
+) -> Result<Option<Vec<Granule>>, Memory>
+    requires registry { registry.now ≡ N.registry }
+    requires well_bound { IsWellBound bound.now.action }
+    ensures { IfOk result (λ found. IfSome found
+        (λ granules. AreCandidatesOf at.now.migration bound.now granules.items)) }
+{
+    match &at.migration {
+        Some(pass) if at.is_left => candidates_of(alloc, bound, registry.migration(pass)),
+        Some(_) | None => Ok(None),
     }
 }
 
 impl<N: Opened> Request<N> {
-    /// The statement at a position, made ready: bound, with its locks, and with its cover by the old rows of the
-    /// last migration by their values, where anything of it may be left to move. It costs what
-    /// [`bf_plan::prepare`] and [`bf_transpose::cover_of`] do, and waits for nobody.
+    /// The statement at a position, made ready: bound, with its locks, with its cover where no granule has to be looked for,
+    /// and with its candidates where its keys tell them and something of the migration is left to move. It costs what
+    /// [`bf_plan::prepare`] and [`bf_transpose::candidates_of`] do, and waits for nobody.
     ///
     /// # Errors
     /// Where memory runs out.
@@ -235,21 +276,47 @@ impl<N: Opened> Request<N> {
         registry: &Registry,
         script: &Script,
         at: Position<N>,
-        lookups: Option<&ValueIndexes>,
     ) -> Result<Request<N>, Memory>
         requires registry { registry.now ≡ N.registry }
         requires script { script.now ≡ N.script }
-        requires lookups { IfSome lookups (λ found. AreIndexesOf at.migration found.now) }
         ensures { IfOk result (λ request. request.at ≡ at) }
     {
         let bound = bound_at(alloc, registry, script, &at)?;
         let locks = footprint(alloc, &bound)?;
-        let cover = cover_at(alloc, registry, &at, &bound, lookups)?;
+        let cover = cover_at(alloc, registry, &at, &bound)?;
+        let candidates = candidates_at(alloc, registry, &at, &bound)?;
         Ok(Request {
             at,
             bound,
             locks,
             cover,
+            candidates,
+        })
+    }
+
+    /// The statement with its cover, by the old rows of the last migration by their values. It costs what
+    /// [`bf_transpose::cover_of`] does, and waits for nobody.
+    ///
+    /// # Errors
+    /// Where memory runs out.
+    pub(crate) fn covered(
+        self,
+        alloc: Global,
+        registry: &Registry,
+        indexes: &ValueIndexes,
+    ) -> Result<Request<N>, Memory>
+        requires registry { registry.now ≡ N.registry }
+        requires indexes { AreIndexesOf self.at.migration indexes.now }
+        ensures { IfOk result (λ request. request.at ≡ self.at) }
+    {
+        let Some(pass) = &self.at.migration else {
+            return Ok(self);
+        };
+        let last = registry.migration(pass);
+        let cover = cover_of(alloc, &self.bound, Some((last, indexes)))?;
+        Ok(Request {
+            cover: Some(cover),
+            ..self
         })
     }
 }

@@ -16,7 +16,7 @@ ghost use Rattle.bf_tree.specs.declared.reply.Cause.{Cause as Told};
 ghost use Rattle.bf_machine.specs.interleaving.Kept.{is_of_log};
 ghost use Rattle.bf_machine.specs.interleaving.Machines.{Open, open_at};
 ghost use Rattle.bf_machine.specs.interleaving.Serving.{LeavesStore};
-ghost use Rattle.bf_serve.specs.Requests.{HoldsAll, IsCoverAt, IsPresentCatalog, IsReady, StandsAt};
+ghost use Rattle.bf_serve.specs.Requests.{HoldsAll, IsCoverAt, IsPresentCatalog, IsReady, NeedsNothing, StandsAt};
 ghost use Rattle.bf_serve.specs.Sections.{AreNeededIfAny, IsAskedAs};
 
 use crate::catalogs::copy_of;
@@ -157,16 +157,6 @@ fn holds_if_open<N: Opened>(machine: &Machine<N>, request: &Request<N>) -> bool
     }
 }
 
-/// Whether a statement that was made ready has its cover, or nothing of the last migration is left to move.
-fn is_covered<N: Opened>(machine: &Machine<N>, request: &Request<N>) -> bool
-    ensures { IsTrue result → request.now.cover ≡ None → IsSomeAnd machine.now.lazy.last IsComplete }
-{
-    match request.cover() {
-        Some(_) => true,
-        None => machine.is_complete(),
-    }
-}
-
 /// Whether two passes of a registry are of one migration, or there is neither.
 fn are_one(registry: &Registry, one: Option<&MigrationPass>, other: Option<&MigrationPass>) -> bool
     requires one { IsOf registry.now (option_map (λ pass. pass.now) one) }
@@ -188,13 +178,14 @@ pub(crate) enum Ran {
     Replied,
     /// These granules of the last migration are to move first.
     Need(Vec<Granule>),
+    /// What it needs of the last migration has to be looked for first.
+    Uncovered,
     /// The machine does not stand there any more, or what it was made ready by has changed.
     Elsewhere,
 }
 
 /// Whether a statement that was made ready may have its reply, or be told what it needs: the machine still stands there, in the
-/// same catalog and with the same last migration, its group holds the locks, and it has its cover, but where nothing of the
-/// migration is left to move.
+/// same catalog and with the same last migration, and its group holds the locks.
 fn is_ready<N: Opened>(
     registry: &Registry,
     machine: &Machine<N>,
@@ -214,10 +205,33 @@ fn is_ready<N: Opened>(
     if !are_one(registry, at.migration(), pass.as_ref()) {
         return false;
     }
-    if !holds_if_open(machine, request) {
-        return false;
+    holds_if_open(machine, request)
+}
+
+/// Whether nothing that a statement needs is left to move, as far as that is told without a row made: nothing of the last
+/// migration is left, or all its candidates have moved.
+///
+/// # Errors
+/// Where memory runs out.
+fn needs_nothing<N: Opened>(
+    alloc: Global,
+    machine: &Machine<N>,
+    request: &Request<N>,
+) -> Result<bool, Memory>
+    requires { IsReady machine.now request.now }
+    ensures { IfOk result (λ nothing. IsTrue nothing → NeedsNothing machine.now request.now) }
+{
+    // Their contracts say what a machine and a request keep.
+    let _ = machine.script();
+    let _ = request.at();
+    if machine.is_complete() {
+        return Ok(true);
     }
-    is_covered(machine, request)
+    let Some(candidates) = request.candidates() else {
+        return Ok(false);
+    };
+    let left = machine.need(alloc, candidates)?;
+    Ok(left.is_empty())
 }
 
 /// Replies to a statement that may have its reply, or tells what is to move first.
@@ -273,15 +287,18 @@ pub(crate) fn run_statement<N: Opened>(
     if !is_ready(registry, machine, catalog, request) {
         return Ok(Ran::Elsewhere);
     }
+    if let Some(cover) = request.cover() {
+        return run_ready(registry, machine, request, cover);
+    }
+    if !needs_nothing(alloc, machine, request)? {
+        return Ok(Ran::Uncovered);
+    }
     let nothing = Cover {
         catalog: 0,
         migration: 0,
         granules: Vec::new(alloc),
     };
-    match request.cover() {
-        Some(cover) => run_ready(registry, machine, request, cover),
-        None => run_ready(registry, machine, request, &nothing),
-    }
+    run_ready(registry, machine, request, &nothing)
 }
 
 /// Commits a session's group, adds the catalog to the registry where it has changed, and tells whether it has.

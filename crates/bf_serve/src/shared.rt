@@ -173,28 +173,48 @@ impl<'r, 'g, N: Beginning<J>, J: Journal, R: Wait, G: Gate> Shared<'r, 'g, N, J,
         }
     }
 
-    /// Makes a statement ready, and serves it.
+    /// Makes a statement ready, and serves it. Where its keys tell its candidates, its cover is made only once one of them is
+    /// left to move.
     fn drive(&self, at: Position<N>, next: &mut Option<Position<N>>) -> Result<Step, Memory>
         ensures { IfOk result (IsStep N.registry) }
     {
         let request = self.make_ready(at)?;
-        let (served, position) = self.engine().serve(self.rt, self.registry, &request)?;
+        if let Some(step) = self.serve(&request, next)? {
+            return Ok(step);
+        }
+        let request = self.cover(request)?;
+        match self.serve(&request, next)? {
+            Some(step) => Ok(step),
+            None => Ok(Step::Again),
+        }
+    }
+
+    /// Serves a statement that was made ready, and tells how the turn ends; none where its cover is to be made first.
+    fn serve(
+        &self,
+        request: &Request<N>,
+        next: &mut Option<Position<N>>,
+    ) -> Result<Option<Step>, Memory>
+        ensures { IfOk result (λ step. IfSome step (IsStep N.registry)) }
+    {
+        let (served, position) = self.engine().serve(self.rt, self.registry, request)?;
         *next = position;
         match (served, request.at().migration()) {
-            (Served::Replied, _) => Ok(Step::Replied(request.at().place())),
+            (Served::Replied, _) => Ok(Some(Step::Replied(request.at().place()))),
             (Served::Ended { changes_catalog }, _) => {
                 self.tell_end(changes_catalog);
-                Ok(Step::Replied(request.at().place()))
+                Ok(Some(Step::Replied(request.at().place())))
             }
             (Served::Need(granules, seen), Some(pass)) => {
-                Ok(Step::Need(pass.copy(), granules, seen))
+                Ok(Some(Step::Need(pass.copy(), granules, seen)))
             }
-            (Served::Waits(seen), _) => Ok(Step::Wait(seen)),
+            (Served::Waits(seen), _) => Ok(Some(Step::Wait(seen))),
             (Served::Died, _) => {
                 self.wake();
-                Ok(Step::Again)
+                Ok(Some(Step::Again))
             }
-            (Served::Need(..) | Served::Elsewhere, _) => Ok(Step::Again),
+            (Served::Uncovered, _) => Ok(None),
+            (Served::Need(..) | Served::Elsewhere, _) => Ok(Some(Step::Again)),
         }
     }
 
@@ -208,16 +228,24 @@ impl<'r, 'g, N: Beginning<J>, J: Journal, R: Wait, G: Gate> Shared<'r, 'g, N, J,
         }
     }
 
-    /// A statement made ready, by the old rows of the migration by their values where something of it is left to move.
+    /// A statement made ready; with its cover where something of the migration is left to move, and its keys do not tell its
+    /// candidates.
     fn make_ready(&self, at: Position<N>) -> Result<Request<N>, Memory> {
-        if let Some(pass) = at.migration()
-            && at.is_left
-        {
-            let lookups = self.lookups(pass)?;
-            let indexes = Some(lookups.indexes());
-            return Request::of(self.alloc, self.registry, &self.script, at, indexes);
+        let is_left = at.is_left;
+        let request = Request::of(self.alloc, self.registry, &self.script, at)?;
+        if !is_left || request.cover().is_some() || request.candidates().is_some() {
+            return Ok(request);
         }
-        Request::of(self.alloc, self.registry, &self.script, at, None)
+        self.cover(request)
+    }
+
+    /// A statement with its cover, by the old rows of its migration by their values.
+    fn cover(&self, request: Request<N>) -> Result<Request<N>, Memory> {
+        let Some(pass) = request.at().migration() else {
+            return Ok(request);
+        };
+        let lookups = self.lookups(pass)?;
+        request.covered(self.alloc, self.registry, lookups.indexes())
     }
 
     /// The old rows of a migration by their values: those that are shared, or else new ones, which are shared from then on.

@@ -28,7 +28,7 @@ use Rattle.bf_image.proofs.finding.Owner.{looked_up}
 abbrev numbered : (UnitForm → List Place) → ℕ → List UnitForm → List Granule
 numbered places n units = flat_map (λ u. map (granule u.0) (places u.1)) (enumerate_from n units)
 
-of_number : (k : ℕ) (j : ℕ) (place : Place) (ps : List Place) → has same_granule (map (granule k) ps) (granule j place) ≡ (j == k && has same_place ps place)
+pub of_number : (k : ℕ) (j : ℕ) (place : Place) (ps : List Place) → has same_granule (map (granule k) ps) (granule j place) ≡ (j == k && has same_place ps place)
 of_number k j place [] = off (j == k)
   where
     off : (b : Bool) → false ≡ (b && false)
@@ -50,7 +50,7 @@ none_below places (u ∷ units) n j place less =
     ∙ (ap₂ (λ b c. b || c) (of_number n j place (places u) ∙ ap (λ b. b && has same_place (places u) place) (other_number j n less)) (none_below places units (n + 1) j place (omega arith)))
 
 -- those of a unit are among all where its places have theirs
-at_unit : (places : UnitForm → List Place) (units : List UnitForm) (n i j : ℕ) (form : UnitForm) (place : Place) → slice_get units i ≡ Some form → n + i ≡ j
+pub at_unit : (places : UnitForm → List Place) (units : List UnitForm) (n i j : ℕ) (form : UnitForm) (place : Place) → slice_get units i ≡ Some form → n + i ≡ j
     → has same_granule (numbered places n units) (granule j place) ≡ has same_place (places form) place
 at_unit places [] n i j form place at sum = absurd cc
 at_unit places (u ∷ units) n zero j form place at sum =
@@ -96,7 +96,7 @@ module _ (p : Granule → Bool) (g : Granule) (is : p g ≡ true) where
           let same : g ≡ h = same_granule-equal g h (alone_true _ (sym (ap (λ zs. has same_granule zs g) (one ∙ ap option_to_list e)) ∙ kept xs there)) in
           e ∙ ap Some (sym same)
 
-found_has : (p : Granule → Bool) (xs : List Granule) (g : Granule) → find p xs ≡ Some g → has same_granule xs g ≡ true
+pub found_has : (p : Granule → Bool) (xs : List Granule) (g : Granule) → find p xs ≡ Some g → has same_granule xs g ≡ true
 found_has p [] g e = absurd cc
 found_has p (x ∷ xs) g e = at (p x) (found_has p xs g) e
   where

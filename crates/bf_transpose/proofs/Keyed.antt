@@ -32,7 +32,7 @@ module _ {X : Type 0} where
   filter_alike p q one [] = refl
   filter_alike p q one (x ∷ xs) = ap₂ (λ b zs. cond b (x ∷ zs) zs) (one x) (filter_alike p q one xs)
 
-  any_of_both : (p q : X → Bool) (xs : List X) → list_any (λ x. p x || q x) xs ≡ (list_any p xs || list_any q xs)
+  pub any_of_both : (p q : X → Bool) (xs : List X) → list_any (λ x. p x || q x) xs ≡ (list_any p xs || list_any q xs)
   any_of_both p q [] = refl
   any_of_both p q (x ∷ xs) = ap (λ b. (p x || q x) || b) (any_of_both p q xs) ∙ turned (p x) (q x) (list_any p xs) (list_any q xs)
     where
@@ -42,7 +42,7 @@ module _ {X : Type 0} where
       turned false true false d = refl
       turned false false c d = refl
 
-  any_so : (p q : X → Bool) → ((x : X) → p x ≡ true → q x ≡ true) → (xs : List X) → list_any p xs ≡ true → list_any q xs ≡ true
+  pub any_so : (p q : X → Bool) → ((x : X) → p x ≡ true → q x ≡ true) → (xs : List X) → list_any p xs ≡ true → list_any q xs ≡ true
   any_so p q one [] some = absurd cc
   any_so p q one (x ∷ xs) some = elim (cases_Bool (p x)) [
     | inl passes ↦ or_left _ _ (one x passes)

@@ -17,9 +17,12 @@ mod Listed
 mod Looked
 mod Merging
 pub mod Named
+mod Needed
 pub mod Numbered
 mod Outside
 pub mod Owners
+pub mod Paired
+pub mod Possible
 mod Ranged
 mod Rising
 mod Sought

@@ -12,7 +12,7 @@ use Rattle.bf_transpose.proofs.Named.{is_it}
 
 module _ (m : Migration) (lawful : IsLawfulMigration m) (table : Table) where
   -- the place of its table is its own
-  own_place : position (λ made. same_table made table) m.plan.tables ≡ position (is_it (old_of m) table) m.plan.migrate.targets
+  pub own_place : position (λ made. same_table made table) m.plan.tables ≡ position (is_it (old_of m) table) m.plan.migrate.targets
   own_place =
       ap (λ plan. position (λ made. same_table made table) plan.tables) lawful.planned
       ∙ position-map (λ made. same_table made table) (target_table (old_of m)) m.plan.migrate.targets

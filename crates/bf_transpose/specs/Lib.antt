@@ -1,3 +1,4 @@
+pub mod Candidates
 pub mod Covers
 pub mod Each
 pub mod InOrder

@@ -2,6 +2,7 @@
 #![tactic(auto)]
 
 mod bounds;
+pub mod by_key;
 mod condition;
 pub mod cover;
 mod drivers;
@@ -12,4 +13,5 @@ mod scan;
 mod target;
 mod transposed;
 
+pub use by_key::{candidates, candidates_of};
 pub use cover::{Cover, can_need, cover_of};

@@ -148,6 +148,16 @@ fn is_of(unit: &Unit, target: u8) -> bool
     unit.arms.as_slice().iter().any(|(of, _)| *of == target)
 }
 
+/// Whether the unit of a number has an arm of a target. Takes no memory.
+pub(crate) fn has_arm(migration: &Migration, unit: u8, target: u8) -> bool
+    ensures { result ≡ has_arm migration.now target unit }
+{
+    match migration.plan.units.as_slice().get(unit as usize) {
+        Some(planned) => is_of(planned, target),
+        None => false,
+    }
+}
+
 /// A unit with its old tables, if it has an arm of a target.
 fn unit_for<'a>(
     alloc: Global,
@@ -596,16 +606,6 @@ impl<'a> Search<'a> {
         }
     }
 
-    /// Whether a unit has an arm of the target. Takes no memory.
-    fn has_arm(&self, unit: u8) -> bool
-        ensures { result ≡ has_arm self.now.migration.now self.now.target unit }
-    {
-        match self.migration.plan.units.as_slice().get(unit as usize) {
-            Some(planned) => is_of(planned, self.target),
-            None => false,
-        }
-    }
-
     /// Adds those granules of a unit.
     fn add_unit(&self, alloc: Global, unit: u8, granules: &mut Vec<Granule>) -> Result<(), Memory>
         requires { IsSearch self.now }
@@ -613,7 +613,7 @@ impl<'a> Search<'a> {
             (gives self.now.migration.now self.now.target self.now.cond.now)
             (granules_in self.now.migration.now unit)) }
     {
-        if !self.has_arm(unit) {
+        if !has_arm(self.migration, unit, self.target) {
             return Ok(());
         }
         match self.indexes.unit(unit) {

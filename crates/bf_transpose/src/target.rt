@@ -22,6 +22,7 @@ pub(crate) fn target_of(migration: &Migration, table: &Table) -> Option<u8>
     requires { IsLawfulMigration migration.now }
     ensures target { option_map (target_at migration.now) result
         ≡ target_of (old_of migration.now) migration.now.plan.migrate table.now }
+    ensures place { result ≡ position (λ made. same_table made table.now) migration.now.plan.tables }
     ensures there { IfSome result (λ number. number < length migration.now.plan.migrate.targets) }
 {
     let Some(place) = place_of(migration.plan.tables.as_slice(), table) else {

@@ -1,7 +1,9 @@
 -- ENOUGH IS ENOUGH: what is left of it is what is left of the statement's need.
-use Rattle.std.proofs.Common.{◌≡◌, ◌⊎◌, ℕ, not, List, [], length, Option, Some, None, refl, sym, ap, ◌∙◌, inl, inr}
+use Rattle.std.proofs.Common.{◌≡◌, ◌==◌, arith, ℕ, true, not, List, [], ◌∷◌, length, Option, Some, None, refl, sym, ap, ◌∙◌}
 use Rattle.std.specs.Prelude.{IsSomeAnd, find}
+use Rattle.std.specs.List.{list_all}
 use Rattle.std.specs.Option.{option_map}
+use Rattle.std.proofs.lemmas.Bool.Decides.{nat_tests}
 use Rattle.boxcar.specs.Table.{Where}
 use Rattle.bf_base.specs.declared.granule.Granule.{Granule}
 use Rattle.bf_base.specs.Lists.{has}
@@ -60,18 +62,34 @@ need_by_pass (Some last) (Some pass) act is = ap (λ (l : Migration). needed_for
 need_by_pass None (Some pass) act is = absurd is
 need_by_pass (Some last) None act is = absurd is
 
--- a cover, or no granule where nothing is left to move
+-- of a cover is left to move what is left of the need
 abbrev pub IsEnoughFor : Option Migration → Option Kept → Bound → Cover → Type 0
-IsEnoughFor last migration bound cover = IsCoverOf migration bound cover ⊎ (IsSomeAnd last IsComplete × (cover.granules.items ≡ []))
+IsEnoughFor last migration bound cover = to_move last cover.granules.items ≡ to_move last (needed_in migration bound.action)
 
 module _ (lazy : LazyState) (own : Option (Where Kept)) (by : IsByPass lazy.last own) (migration : Option Kept)
     (same : migration ≡ option_map (λ (p : Where Kept). p.value) own) (bound : Bound) (cover : Cover) where
-  pub cover_is_need : IsCoverOf migration bound cover → cover.granules.items ≡ need_of lazy.last bound.action
-  cover_is_need covers = covers.granules ∙ (ap (λ (last : Option Kept). needed_in last bound.action) same ∙ sym (need_by_pass lazy.last own bound.action by))
+  pub enough_is_enough : IsEnoughFor lazy.last migration bound cover → to_move lazy.last cover.granules.items ≡ to_move lazy.last (need_of lazy.last bound.action)
+  enough_is_enough is = is ∙ ap (to_move lazy.last) (ap (λ (last : Option Kept). needed_in last bound.action) same ∙ sym (need_by_pass lazy.last own bound.action by))
 
-  pub enough_is_enough : IsUnderWayIfAny lazy.live lazy.last → IsEnoughFor lazy.last migration bound cover
-      → to_move lazy.last cover.granules.items ≡ to_move lazy.last (need_of lazy.last bound.action)
-  enough_is_enough way is = elim is as (λ _. to_move lazy.last cover.granules.items ≡ to_move lazy.last (need_of lazy.last bound.action)) [
-    | inl covers ↦ ap (to_move lazy.last) (cover_is_need covers)
-    | inr none ↦ ap (to_move lazy.last) none.1 ∙ (nothing_left lazy.last ∙ sym (complete_leaves_none lazy.live lazy.last way none.0 bound.action))
-  ]
+-- an exact cover is enough
+pub exact_is_enough : (last : Option Migration) (migration : Option Kept) (bound : Bound) (cover : Cover) → IsCoverOf migration bound cover → IsEnoughFor last migration bound cover
+exact_is_enough last migration bound cover covers = ap (to_move last) covers.granules
+
+-- and no granule where none of the need is left
+pub nothing_is_enough : (last : Option Migration) (migration : Option Kept) (bound : Bound) (cover : Cover) → cover.granules.items ≡ [] → to_move last (needed_in migration bound.action) ≡ []
+    → IsEnoughFor last migration bound cover
+nothing_is_enough last migration bound cover empty none = ap (to_move last) empty ∙ (nothing_left last ∙ sym none)
+
+-- among granules of which none is left stands none that is left
+pub none_among : (last : Option Migration) (granules need : List Granule) → list_all (has same_granule granules) need ≡ true → to_move last granules ≡ [] → to_move last need ≡ []
+none_among None granules need each none = refl
+none_among (Some last) granules need each none =
+    none_left_if_done last need
+    (all_so (has same_granule granules) (is_done last) (λ g there. has_if_within granules (granules_done last) g (done_if_none_left last granules none) there) need each)
+
+-- a list of no items
+pub nothing_there : (granules : List Granule) (n : ℕ) → (n == 0) ≡ true → n ≡ length granules → granules ≡ []
+nothing_there [] n zero size = refl
+nothing_there (g ∷ gs) n zero size =
+    let none : n ≡ 0 = grind (arith, nat_tests, zero) in
+    absurd (omega (arith, none, size))

@@ -25,7 +25,7 @@ use Rattle.bf_store.specs.States.{AreGranules, AreGranulesIfAny, IsLazy, IsUnder
 use Rattle.bf_store.specs.Stores.{IsByPass, migration_of}
 use Rattle.bf_store.proofs.coming.Parts.{granules_apart}
 use Rattle.bf_store.proofs.moving.Needing.{need_is_granules}
-use Rattle.bf_transpose.specs.Covers.{IsCoverOf, can_need, needed_in}
+use Rattle.bf_transpose.specs.Covers.{can_need, needed_in}
 use Rattle.bf_transpose.specs.declared.cover.Cover.{Cover}
 use Rattle.bf_machine.specs.declared.stand.Step.{Step}
 use Rattle.bf_machine.specs.declared.stand.Step.TheVariants.{Need, Replied, Stale}
@@ -34,7 +34,7 @@ use Rattle.bf_machine.specs.interleaving.Events.{Event, Moves, Reaches, at_once,
 use Rattle.bf_machine.specs.interleaving.Kept.{IsKept}
 use Rattle.bf_machine.specs.interleaving.Machines.{Machine}
 use Rattle.bf_machine.specs.interleaving.Serving.{HasMovedFirst, HasMovedNeed, HasMovedSome, MovesAll, left_of_need, no_move, one_record}
-use Rattle.bf_machine.proofs.served.Enough.{cover_is_need, enough_is_enough, nothing_left}
+use Rattle.bf_machine.proofs.served.Enough.{enough_is_enough, nothing_left}
 use Rattle.bf_machine.proofs.served.Moved.{HaveMovedBesides, both_besides, need_besides, none_besides, none_to_move, one_besides}
 
 module _ (lazy : LazyState) (act : Action) where
@@ -183,8 +183,7 @@ module _ {start : Database} (m : Machine) (kept : IsKept start m) (bound : Bound
 
   left : to_move m.lazy.last cover.granules.items ≡ left_of_need m bound
   left =
-      enough_is_enough m.lazy m.pass kept.store_valid.by_pass (option_map (λ (p : Where Kept). p.value) pass) (ap (option_map (λ (p : Where Kept). p.value)) own) bound cover
-      kept.store_valid.seen_as.lazy_state.last is
+      enough_is_enough m.lazy m.pass kept.store_valid.by_pass (option_map (λ (p : Where Kept). p.value) pass) (ap (option_map (λ (p : Where Kept). p.value)) own) bound cover is
 
   pub need_told : (granules : Vec Granule) → IsStep m pass bound cover.granules.items (Need granules) → granules.items ≡ to_move m.lazy.last (need_of m.lazy.last bound.action)
   need_told granules step = (needs_left m pass bound cover.granules.items is_present granules step).0 ∙ left
@@ -196,13 +195,6 @@ module _ {start : Database} (m : Machine) (kept : IsKept start m) (bound : Bound
   -- where it has its reply at once
   pub nothing_to_move : IsStep m pass bound cover.granules.items Replied → left_of_need m bound ≡ []
   nothing_to_move step = sym left ∙ elim step as (λ _. to_move m.lazy.last cover.granules.items ≡ []) [ inl here ↦ here.1 | inr gone ↦ absurd (gone.0 is_present) ]
-
-  -- where some is left, it is a cover
-  pub covers : (granules : Vec Granule) → IsStep m pass bound cover.granules.items (Need granules) → IsCoverOf (option_map (λ (p : Where Kept). p.value) pass) bound cover
-  covers granules step = elim is as (λ _. IsCoverOf (option_map (λ (p : Where Kept). p.value) pass) bound cover) [
-    | inl so ↦ so
-    | inr none ↦ absurd ((needs_left m pass bound cover.granules.items is_present granules step).1 (ap (to_move m.lazy.last) none.1 ∙ nothing_left m.lazy.last))
-  ]
 
   module _ (gs : List Granule) (same : gs ≡ to_move m.lazy.last (need_of m.lazy.last bound.action)) where
     pub may_move : AreGranulesIfAny m.lazy.last gs
@@ -222,19 +214,24 @@ module _ {start : Database} (m : Machine) (kept : IsKept start m) (bound : Bound
         migration = ap slot_of (own ∙ sym (ap (λ (k : Machine). k.pass) come.1));
       }
 
+      stored : now.lazy ≡ come.0
+      stored = ap (λ (k : Machine). k.lazy) come.1
+
+      -- none is left of granules of which just these were
+      none_besides_those : (granules : List Granule) → gs ≡ to_move m.lazy.last granules → to_move come.0.last granules ≡ []
+      none_besides_those granules those =
+          none_to_move m.lazy.last come.0.last granules
+          (need_besides m.lazy.last come.0.last granules (subst (λ (gs : List Granule). HaveMovedBesides m.lazy.last gs come.0.last) those come.2))
+
       pub none_then : to_move now.lazy.last cover.granules.items ≡ []
       none_then =
-          let stored : now.lazy ≡ come.0 = ap (λ (k : Machine). k.lazy) come.1 in
-          let needed = need_of m.lazy.last bound.action in
-          let all : HaveMovedBesides m.lazy.last needed come.0.last =
-          need_besides m.lazy.last come.0.last needed (subst (λ (gs : List Granule). HaveMovedBesides m.lazy.last gs come.0.last) same come.2) in
-          ap (λ (l : LazyState). to_move l.last cover.granules.items) stored
-          ∙ elim is as (λ _. to_move come.0.last cover.granules.items ≡ []) [
-            | inl so ↦
-                ap (to_move come.0.last) (cover_is_need m.lazy m.pass kept.store_valid.by_pass (option_map (λ (p : Where Kept). p.value) pass) (ap (option_map (λ (p : Where Kept). p.value)) own) bound cover so)
-                ∙ none_to_move m.lazy.last come.0.last needed all
-            | inr none ↦ ap (to_move come.0.last) none.1 ∙ nothing_left come.0.last
-          ]
+          ap (λ (l : LazyState). to_move l.last cover.granules.items) stored ∙ none_besides_those cover.granules.items (same ∙ sym left)
+
+      -- and what was enough of it is so still
+      pub enough_then : IsEnough now (option_map (λ (p : Where Kept). p.value) pass) bound cover
+      enough_then =
+          let needed = needed_in (option_map (λ (p : Where Kept). p.value) pass) bound.action in
+          none_then ∙ sym (ap (λ (l : LazyState). to_move l.last needed) stored ∙ none_besides_those needed (same ∙ (sym left ∙ is)))
 
       pub place_then : (s : ℕ) → IsPlace m.script s → IsPlace now.script s
       place_then s place = subst (λ (k : Machine). IsPlace k.script s) (sym come.1) place

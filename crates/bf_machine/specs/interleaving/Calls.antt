@@ -10,8 +10,8 @@ use Rattle.bf_base.specs.declared.granule.Granule.{Granule}
 use Rattle.boxcar.specs.Table.{Where}
 use Rattle.bf_image.specs.declared.migration.Migration.{Migration}
 use Rattle.bf_sql.specs.migrations.Plans.{prepared_of}
-use Rattle.bf_store.specs.States.{IsComplete, to_move}
-use Rattle.bf_transpose.specs.Covers.{IsCoverOf}
+use Rattle.bf_store.specs.States.{to_move}
+use Rattle.bf_transpose.specs.Covers.{needed_in}
 use Rattle.bf_transpose.specs.declared.cover.Cover.{Cover}
 use Rattle.bf_sql.specs.Database.{Database}
 use Rattle.bf_sql.specs.Footprints.{footprint_of}
@@ -40,9 +40,9 @@ pub record IsPresent (m : Machine) (pass : Option (Where Migration)) (bound : Bo
   pub catalog : bound.catalog ≡ m.db.number
   pub migration : slot_of pass ≡ slot_of m.pass
 
--- ENOUGH: a cover of a bound statement by the migration of its pass; or where nothing of the last migration is left to move, no granule
+-- ENOUGH: of a cover's granules is left to move what is left of all that a bound statement needs of the migration of its pass
 abbrev pub IsEnough : Machine → Option Migration → Bound → Cover → Type 0
-IsEnough m migration bound cover = IsCoverOf migration bound cover ⊎ (IsSomeAnd m.lazy.last IsComplete × (cover.granules.items ≡ []))
+IsEnough m migration bound cover = to_move m.lazy.last cover.granules.items ≡ to_move m.lazy.last (needed_in migration bound.action)
 
 -- EXEC: how it goes, by whether that is so, and by what is left to move of the cover
 abbrev pub step_of : Machine → List Granule → Step → Type 0

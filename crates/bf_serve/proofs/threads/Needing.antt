@@ -12,15 +12,16 @@ use Rattle.bf_sql.specs.Database.{Database}
 use Rattle.bf_image.specs.Registries.{Registry}
 use Rattle.bf_sql.specs.migrations.Lazy.{Migration}
 use Rattle.bf_image.specs.declared.migration.Migration.{Migration as Kept}
-use Rattle.bf_store.specs.States.{AreGranules, AreGranulesIfAny, granule_cmp}
+use Rattle.bf_store.specs.States.{AreGranules, AreGranulesIfAny, granule_cmp, to_move}
 use Rattle.bf_store.specs.Stores.{IsByPass, migration_of}
-use Rattle.bf_transpose.specs.Covers.{IsCoverOf}
+use Rattle.bf_transpose.specs.Covers.{IsCoverOf, needed_in}
 use Rattle.bf_transpose.specs.declared.cover.Cover.{Cover}
 use Rattle.bf_machine.specs.declared.stand.Step.TheVariants.{Need}
 use Rattle.bf_machine.specs.interleaving.Calls.{IsEnough, IsStep}
 use Rattle.bf_machine.specs.interleaving.Kept.{IsKept}
 use Rattle.bf_machine.specs.interleaving.Machines.{Machine}
 use Rattle.bf_machine.proofs.keeping.Numbers.{prepared_number}
+use Rattle.bf_machine.proofs.served.Enough.{exact_is_enough, nothing_is_enough}
 use Rattle.bf_machine.proofs.served.Needs.{may_move, need_told}
 use Rattle.bf_machine.proofs.served.Records.{left_rises}
 use Rattle.bf_serve.specs.Requests.{AreNeededOf, IsCoverAt, IsReady, IsRequest, Request}
@@ -54,8 +55,8 @@ module _ {start : Database} (registry : Registry) (m : Machine) (kept : IsKept s
 
   pub enough : IsEnough m (values pass) r.bound cover
   enough = elim at as (λ _. IsEnough m (values pass) r.bound cover) [
-    | inl so ↦ inl (subst (λ (o : Option Kept). IsCoverOf o r.bound cover) same (covered_at r cover so is.covered))
-    | inr none ↦ inr none
+    | inl so ↦ exact_is_enough m.lazy.last (values pass) r.bound cover (subst (λ (o : Option Kept). IsCoverOf o r.bound cover) same (covered_at r cover so is.covered))
+    | inr none ↦ nothing_is_enough m.lazy.last (values pass) r.bound cover none.1 (ap (λ (o : Option Kept). to_move m.lazy.last (needed_in o r.bound.action)) (sym same) ∙ none.0)
   ]
 
   number : r.bound.catalog ≡ m.db.number

@@ -10,6 +10,9 @@ use Rattle.bf_machine.proofs.served.Needs.{is_present, lent, lent_then, none_if_
 use Rattle.bf_machine.proofs.served.Replying.{needs_nothing}
 use Rattle.bf_machine.proofs.serving.refuse.Goals as goal
 
+pub cover_with-requires-clause-own : goal.cover_with-requires-clause-own
+cover_with-requires-clause-own g c = lent c.as_ref-migration.result ∙ (c.as_ref-migration.ensures.value ∙ c.migration-pass.ensures.pass)
+
 pub cover_with-requires-clause-pass : goal.cover_with-requires-clause-pass
 cover_with-requires-clause-pass g c =
     subst (IsOf g.N.Opened.registry) (sym (lent c.as_ref-migration.result ∙ (c.as_ref-migration.ensures.value ∙ c.migration-pass.ensures.pass))) c.migration-pass.ensures.one

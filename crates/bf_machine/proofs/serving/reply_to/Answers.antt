@@ -1,5 +1,5 @@
 -- What is needed has moved, and then the statement has its reply.
-use Rattle.std.proofs.Common.{◌≡◌, List, [], Option, refl, sym, ap, subst, ◌∙◌, inl}
+use Rattle.std.proofs.Common.{◌≡◌, List, [], Option, refl, sym, ap, subst, ◌∙◌}
 use Rattle.std.specs.Prelude.{IsTrue, Result, Ok, Err, OnErr}
 use Rattle.std.specs.Global.{Vec}
 use Rattle.std.specs.Option.{option_map}
@@ -12,7 +12,6 @@ use Rattle.bf_base.specs.Lists.{rises}
 use Rattle.bf_image.specs.declared.migration.Migration.{Migration as Kept}
 use Rattle.bf_store.specs.States.{AreGranulesIfAny, granule_cmp}
 use Rattle.bf_store.specs.Stores.{IsOf}
-use Rattle.bf_transpose.specs.Covers.{IsCoverOf}
 use Rattle.bf_machine.specs.declared.journal.KeepError.TheVariants.{Memory as NoMemory}
 use Rattle.bf_machine.specs.declared.stand.Step.{Step}
 use Rattle.bf_machine.specs.declared.stand.Step.TheVariants.{Need, Replied}
@@ -21,7 +20,7 @@ use Rattle.bf_machine.specs.interleaving.Journals.{Keeps, KeepsOrIsRefused, noth
 use Rattle.bf_machine.specs.interleaving.Machines.{Machine}
 use Rattle.bf_machine.specs.interleaving.Serving.{HasMovedFirst, HasMovedSome, MovesAll, left_of_need, no_move}
 use Rattle.bf_machine.proofs.served.Keeping.{keeps_not, keeps_reply, keeps_without_memory}
-use Rattle.bf_machine.proofs.served.Needs.{all_is_some, can_then, covers, has_moved, has_moved_some, is_present, lent, lent_then, may_move, need_told, none_is_some, none_then, not_stale, nothing_to_move, place_then, present_then}
+use Rattle.bf_machine.proofs.served.Needs.{all_is_some, can_then, enough_then, has_moved, has_moved_some, is_present, lent, lent_then, may_move, need_told, none_is_some, none_then, not_stale, nothing_to_move, place_then, present_then}
 use Rattle.bf_machine.proofs.served.Records.{left_rises}
 use Rattle.bf_machine.proofs.serving.reply_to.Goals as goal
 
@@ -36,6 +35,9 @@ same_error (Err x) e none same = ap Err same
 
 not_replied : (r : Result Step Memory) (granules : Vec Granule) → r ≡ Ok (Need granules) → r ≡ Ok Replied → ⊥
 not_replied r granules is e = let clash : ◌≡◌ {A = Result Step Memory} (Ok (Need granules)) (Ok Replied) = sym is ∙ e in cc
+
+pub cover_with-requires-clause-own : goal.cover_with-requires-clause-own
+cover_with-requires-clause-own g c = lent c.as_ref-migration.result ∙ (c.as_ref-migration.ensures.value ∙ c.migration-pass.ensures.pass)
 
 pub cover_with-requires-clause-pass : goal.cover_with-requires-clause-pass
 cover_with-requires-clause-pass g c =
@@ -131,8 +133,12 @@ reply_behind_moves-requires-clause-cover g c =
     let pass = option_map (λ p. p.now) c.as_ref-migration.result in
     let own : pass ≡ m.pass = lent c.as_ref-migration.result ∙ (c.as_ref-migration.ensures.value ∙ c.migration-pass.ensures.pass) in
     let is : IsEnough m (option_map (λ (p : Where Kept). p.value) pass) bound cover = subst (λ (o : Option Kept). IsEnough m o bound cover) (lent_then (λ (p : Where Kept). p.value) c.as_ref-migration.result) c.in_ok-cover.ensures in
+    let same : c.exec.new.self ≡ m = c.exec.ensures.same (not_replied c.exec.result c.in-Need.granules (c.in_ok-exec.was ∙ ap Ok c.in-Need.is)) in
     let step : IsStep m pass bound cover.granules.items (Need c.in-Need.granules) = subst (λ (step : Step). IsStep m pass bound cover.granules.items step) c.in-Need.is c.in_ok-exec.ensures.step in
-    inl (subst (λ (o : Option Kept). IsCoverOf o bound cover) (sym (lent_then (λ (p : Where Kept). p.value) c.as_ref-migration.result)) (covers m c.requires.kept bound cover pass own is c.requires.present c.in-Need.granules step))
+    let told = c.as_slice.ensures.value ∙ need_told m c.requires.kept bound cover pass own is c.requires.present c.in-Need.granules step in
+    let by : MovesAll m c.as_slice.result.now c.move_need.new.machine = subst (λ (k : Machine). MovesAll k c.as_slice.result.now c.move_need.new.machine) same c.in_ok-move_need-in-Need.ensures.moves in
+    subst (λ (o : Option Kept). IsEnough c.move_need.new.machine o bound cover) (sym (lent_then (λ (p : Where Kept). p.value) c.as_ref-migration.result))
+    (enough_then m c.requires.kept bound cover pass own is c.requires.present c.as_slice.result.now told c.move_need.new.machine by)
 
 pub unreachable-requires : goal.unreachable-requires
 unreachable-requires g c =

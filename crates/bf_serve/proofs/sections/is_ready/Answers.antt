@@ -21,6 +21,5 @@ returns g c = λ yes.
     record {
       stands = subst (StandsAt m) c.at-at.ensures.at (c.stands_at.ensures c.if-not-stands_at.false);
       migration = theirs ∙ (c.are_one.ensures c.if-not-are_one.false ∙ ours);
-      held = c.holds_if_open.ensures c.if-not-holds_if_open.false;
-      complete = c.is_covered.ensures yes;
+      held = c.holds_if_open.ensures yes;
     }

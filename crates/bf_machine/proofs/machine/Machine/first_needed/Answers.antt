@@ -11,18 +11,12 @@ use Rattle.bf_store.specs.States.{HaveMoved, to_move}
 use Rattle.bf_store.proofs.Calls.{cover_has_moved}
 use Rattle.bf_machine.specs.interleaving.Calls.{IsEnough}
 use Rattle.bf_machine.specs.interleaving.Machines.{Machine}
-use Rattle.bf_machine.proofs.served.Enough.{enough_is_enough}
+use Rattle.bf_machine.proofs.served.Enough.{enough_is_enough, nothing_there}
 use Rattle.bf_machine.proofs.machine.Machine.first_needed.Goals as goal
 
 by_copied : {P : Type 0} (f : P → Kept) (r : Option (Bor P)) → option_map (λ p. f p.now) r ≡ option_map f (option_copied r)
 by_copied f None = refl
 by_copied f (Some p) = refl
-
-nothing_there : (granules : List Granule) (n : ℕ) → (n == 0) ≡ true → n ≡ length granules → granules ≡ []
-nothing_there [] n zero size = refl
-nothing_there (g ∷ gs) n zero size =
-    let none : n ≡ 0 = grind (arith, nat_tests, zero) in
-    absurd (omega (arith, none, size))
 
 pub returns-then-is_empty-clause-moved : goal.returns-then-is_empty-clause-moved
 returns-then-is_empty-clause-moved g c = λ _.
@@ -35,7 +29,7 @@ returns-then-is_empty-clause-moved g c = λ _.
     let same = c.are_same-same.ensures.values c.if-not-same.false in
     let passes = by_copied (λ (p : Where Kept). p.value) c.as_ref.result ∙ ap (option_map (λ (p : Where Kept). p.value)) (c.as_ref.ensures.value ∙ c.migration-last.ensures.pass) in
     let enough = subst (λ (m : Machine). IsEnough m migration bound cover) (sym c.self.view_is) c.requires.cover in
-    let left = enough_is_enough lazy own c.migration-last.ensures.by_pass migration (same ∙ passes) bound cover c.self.invariant.0.kept.store_valid.seen_as.lazy_state.last enough in
+    let left = enough_is_enough lazy own c.migration-last.ensures.by_pass migration (same ∙ passes) bound cover enough in
     let told : need.items ≡ to_move lazy.last (cover_of lazy.last bound) = c.in_ok-need.ensures ∙ (ap (to_move lazy.last) c.as_slice.ensures.value ∙ left) in
     let empty : need.items ≡ [] = nothing_there need.items need.len (sym c.is_empty.ensures ∙ c.if-is_empty.true) (omega (arith, need.ok.0)) in
     subst (λ (m : Machine). HaveMoved m.lazy.last (λ last. needed_for last.old last.migrate bound.action)) c.self.view_is (cover_has_moved lazy bound need.items told empty)

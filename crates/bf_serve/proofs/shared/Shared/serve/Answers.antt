@@ -10,11 +10,11 @@ use Rattle.bf_serve.specs.Requests.{AreNeededOf, Position}
 use Rattle.bf_serve.specs.Sections.{AreNeededIfServed}
 use Rattle.bf_serve.specs.Steps.{AreToMove}
 use Rattle.bf_serve.specs.declared.engine.Served.{Served}
-use Rattle.bf_serve.proofs.shared.Shared.drive.Goals as goal
+use Rattle.bf_serve.proofs.shared.Shared.serve.Goals as goal
 
 pub returns-in-Need-Some : goal.returns-in-Need-Some
 returns-in-Need-Some g c =
-    let r = c.in_ok-request.request in
+    let r = c.args.request.now in
     let pass = c.in-Need-Some.pass.now in
     let granules = c.in-Need-Some.granules.items in
     let needed : AreNeededOf r granules = subst (λ (s : Served). AreNeededIfServed r s) c.in-Need-Some.is-0 c.in_ok-served.ensures in
