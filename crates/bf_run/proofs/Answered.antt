@@ -14,10 +14,10 @@ use Rattle.bf_run.specs.declared.status.Status.TheVariants.{Done, Usage, Script 
 use Rattle.bf_run.specs.Creating.{Shelving}
 use Rattle.bf_parse.specs.Scripts.{IsScriptText}
 use Rattle.bf_tree.specs.declared.script.Script.{Script}
-use Rattle.bf_run.specs.Outcome.{RunClaim, HoldsAsked, Stream, IsCalm, IsUnread, IsUntouched, ComesOfFile, ComesOfInput, ComesOfLog, ComesOfRun, IsAnswer, IsTextOf, fault_text}
+use Rattle.bf_run.specs.Outcome.{RunClaim, HoldsAsked, Stream, IsCalm, IsUnread, IsUntouched, ComesOfDemonstration, ComesOfFile, ComesOfInput, ComesOfLog, ComesOfRun, IsAnswer, IsTextOf, fault_text}
 use Rattle.bf_run.specs.Top.{HasRead, IsInputAnswer, IsNoScript, IsScriptOf, IsTextOfRun}
 use Rattle.bf_run.specs.Untold.{ReadsLog}
-use Rattle.bf_words.specs.Words.{Asked, Options, creating, running, trying}
+use Rattle.bf_words.specs.Words.{Asked, Options, creating, demonstrating, running, trying}
 
 -- what follows of two facts of a value, if there is one
 pub of_both : {X E : Type 0} (r : Result X E) (P Q R : X → Type 0) → ((x : X) → P x → Q x → R x) → IfOk r P → IfOk r Q → IfOk r R
@@ -161,4 +161,12 @@ module _ {V : Type 0} (input : Stream) (shelf : Shelving V) where
       → IsAnswer asks input shelf status text
   of_file asks path status text create unread causes spells =
       subst (λ (a : Option Asked). IsAnswer a input shelf status text) create
+      (record { bytes = bytes_of input.bytes; are_told = told_of input.bytes; causes = (unread, causes); is_text = spells (bytes_of input.bytes) })
+
+  pub of_demonstration : (asks : Option Asked) (count : ℕ) (path : List ℕ) (status : Status) (text : List ℕ) → Some (demonstrating count path) ≡ asks → IsUnread input
+      → ComesOfDemonstration path shelf status
+      → ((bytes : List ℕ) → IsTextOf (Some (demonstrating count path)) (HoldsAsked (Some (demonstrating count path)) shelf) (Unit {0}) bytes status text)
+      → IsAnswer asks input shelf status text
+  of_demonstration asks count path status text demo unread causes spells =
+      subst (λ (a : Option Asked). IsAnswer a input shelf status text) demo
       (record { bytes = bytes_of input.bytes; are_told = told_of input.bytes; causes = (unread, causes); is_text = spells (bytes_of input.bytes) })

@@ -2,6 +2,7 @@ pub mod Answered
 pub mod Caused
 pub mod Committed
 pub mod Created
+pub mod Demonstrated
 pub mod Ending
 pub mod Finished
 pub mod Kept

@@ -3,6 +3,7 @@ pub mod Causes
 pub mod Crashing
 pub mod Creating
 pub mod Deaths
+pub mod Demonstrating
 pub mod Keeping
 pub mod Options
 pub mod Outcome

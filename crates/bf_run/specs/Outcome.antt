@@ -1,5 +1,5 @@
 -- What a call of the program answers, when, and what it writes.
-use Rattle.std.specs.Prelude.{◌≡◌, ℕ, ◌+◌, ◌≤◌, ◌⊎◌, List, ◌++◌, length, codes, Option, None, Some, Ok, Err, ⊤}
+use Rattle.std.specs.Prelude.{◌≡◌, ℕ, ◌+◌, ◌≤◌, ◌⊎◌, Bool, List, ◌++◌, length, codes, Option, None, Some, Ok, Err, ⊤}
 use Rattle.std.specs.Io.KnownBytes.{Appends, Keeps, Consumes, IsAtEnd}
 use Rattle.bf_io.specs.Causes.{Rose}
 use Rattle.bf_io.specs.Whole.{IfTold, TookPrefix}
@@ -18,13 +18,16 @@ use Rattle.bf_run.specs.declared.status.Status.{Status}
 use Rattle.bf_run.specs.declared.status.Status.TheVariants.{Done, Usage, Script as ScriptError, ReadFault, WriteFault, DiskFault, NotALog, NotEmpty, Memory}
 use Rattle.bf_run.specs.Causes.{CausesEnds}
 use Rattle.bf_run.specs.Creating.{Shelving, Makes, Refuses, CountsNone, CountsOne, Spares}
+use Rattle.bf_demo.specs.Script.{demonstration}
+use Rattle.bf_demo.specs.Shown.{last_lines, shown_of}
 use Rattle.bf_run.specs.Deaths.{IsRunWithDeaths}
+use Rattle.bf_run.specs.Demonstrating.{AfterMaking, demo_options}
 use Rattle.bf_run.specs.Keeping.{GivesSweep, KeepsLog}
 use Rattle.bf_run.specs.Options.{Finishes, audit_if}
 use Rattle.bf_run.specs.Running.{KeepsOthers, Opens, RefusesLog}
 use Rattle.bf_run.specs.Untold.{ReadsLog, RunsOut}
 use Rattle.bf_run.specs.Words.{IfCreating, IfRunning}
-use Rattle.bf_words.specs.Words.{Asked, Options, creating, running, trying, asked}
+use Rattle.bf_words.specs.Words.{Asked, Options, creating, demonstrating, running, trying, asked}
 use Rattle.bf_machine.specs.InOrder.{IsRunInOrder}
 use Rattle.bf_machine.specs.interleaving.Machines.{EndedGroup}
 use Rattle.bf_sql.specs.Database.{Database}
@@ -130,6 +133,14 @@ ComesOfFile path shelf DiskFault = CountsOne shelf
 ComesOfFile path shelf Memory = ⊤
 ComesOfFile path shelf other = ⊥
 
+-- when a status comes of the file that the demonstration is asked to make its log in, and of its run over this log
+abbrev pub ComesOfDemonstration : {V : Type 0} → List ℕ → Shelving V → Status → Type 0
+ComesOfDemonstration path shelf Done = AfterMaking shelf path (λ later. ComesOfLog path later Done)
+ComesOfDemonstration path shelf (NotEmpty n) = Refuses shelf path n
+ComesOfDemonstration path shelf DiskFault = CountsOne shelf
+ComesOfDemonstration path shelf Memory = ⊤
+ComesOfDemonstration path shelf other = ⊥
+
 -- CAUSES: when a status comes, for what the words ask, the source and its bytes, and the shelf, before anything is
 -- written. No two of Usage, Script with its fault, Done, and NotEmpty and NotALog with their numbers can come for the
 -- same bytes and the same file, since a text and a log have one reading; so where source and shelf tell theirs each of
@@ -139,6 +150,7 @@ Comes None input bytes shelf status = IsUnread input × ComesOfWords status
 Comes (Some trying) input bytes shelf status = ComesOfInput input bytes status
 Comes (Some (creating path)) input bytes shelf status = IsUnread input × ComesOfFile path shelf status
 Comes (Some (running path options)) input bytes shelf status = ComesOfRun path input bytes shelf status
+Comes (Some (demonstrating count path)) input bytes shelf status = IsUnread input × ComesOfDemonstration path shelf status
 
 -- a status that comes of the words, the bytes and the file, and not of a fault or of want of memory
 abbrev pub IsDetermined : Status → Type 0
@@ -164,12 +176,19 @@ not_a_log_text at = numbered (codes "not a log at ") at ++ newline
 abbrev pub fault_of_disk : List ℕ
 fault_of_disk = codes "disk fault" ++ newline
 
+-- the text of the demonstration: the five lines of its size, which are what is shown of the report of its run; of this run this holds
+abbrev pub IsDemonstrationText : ℕ → (Script → Database → List Entry → List EndedGroup → LazyState → Type 0) → List ℕ → Type 0
+IsDemonstrationText count Holds text =
+    (text ≡ last_lines count)
+    × ((report : List ℕ) × IsRunTold demo_options (Holds (demonstration count)) (demonstration count) report × (text ≡ shown_of report))
+
 -- the text of Done, for what was asked, what holds of a run over a log, and the bytes of the source
 abbrev pub IsDoneText : Option Asked → RunClaim → List ℕ → List ℕ → Type 0
 IsDoneText None Holds bytes text = ⊥
 IsDoneText (Some trying) Holds bytes text = IsReport bytes text
 IsDoneText (Some (creating path)) Holds bytes text = text ≡ codes "created" ++ newline
 IsDoneText (Some (running path options)) Holds bytes text = IsRunReport options (Holds Done) bytes text
+IsDoneText (Some (demonstrating count path)) Holds bytes text = IsDemonstrationText count (Holds Done) text
 
 -- the text of DiskFault: the report of a run in whose course the disk failed, or that it failed before, where this holds
 abbrev pub IsFaultText : Option Asked → RunClaim → Type 0 → List ℕ → List ℕ → Type 0
@@ -188,13 +207,20 @@ IsTextOf asks Holds Before bytes (NotEmpty n) text = text ≡ not_empty_text n
 IsTextOf asks Holds Before bytes WriteFault text = ⊥
 IsTextOf asks Holds Before bytes Memory text = ⊥
 
--- a run over the log that is asked for begins with a database that this opens to, a crash leaves a prefix of what it commits, the
+-- a run over the log under a path begins with a database that this opens to, a crash leaves a prefix of what it commits, the
 -- log has ended groups by its causes alone, the sweep is that of the state which its records give, and where that was asked for the
 -- last migration is finished
+abbrev pub HoldsOfLog : {V : Type 0} → Bool → List ℕ → Shelving V → RunClaim
+HoldsOfLog finish path shelf status script start history ended last =
+    Opens shelf path start × KeepsLog shelf path status script start history ended × CausesEnds shelf path status script start history ended × GivesSweep shelf path status last
+    × Finishes shelf path finish status last
+
+-- over the log that is asked for, or over the one that the demonstration has made first
 abbrev pub HoldsAsked : {V : Type 0} → Option Asked → Shelving V → RunClaim
 HoldsAsked (Some (running path options)) shelf status script start history ended last =
-    Opens shelf path start × KeepsLog shelf path status script start history ended × CausesEnds shelf path status script start history ended × GivesSweep shelf path status last
-    × Finishes shelf path options.finish status last
+    HoldsOfLog options.finish path shelf status script start history ended last
+HoldsAsked (Some (demonstrating count path)) shelf status script start history ended last =
+    AfterMaking shelf path (λ later. HoldsOfLog demo_options.finish path later status script start history ended last)
 HoldsAsked other shelf status script start history ended last = ⊥
 
 -- and before one the log that is asked for was read at most

@@ -23,9 +23,12 @@ use Rattle.bf_tree.specs.declared.history.Sweep.{Sweep}
 use Rattle.bf_text.specs.Report.{report_text}
 use Rattle.bf_run.specs.declared.status.Status.{Status}
 use Rattle.bf_run.specs.declared.status.Status.TheVariants.{Done, DiskFault, NotALog, ReadFault, Script as ScriptError}
+use Rattle.bf_demo.specs.Shown.{shown_of}
 use Rattle.bf_run.specs.Causes.{AreCaused}
+use Rattle.bf_run.specs.Creating.{CountsOne, Shelving}
+use Rattle.bf_run.specs.Demonstrating.{demo_options}
 use Rattle.bf_run.specs.Keeping.{IsGivenBy, KeepsFile, KeepsOn}
-use Rattle.bf_run.specs.Outcome.{RunClaim, Stream, ComesOfInput, IsRunTold, IsTextOf, fault_of_disk, fault_text, not_a_log_text}
+use Rattle.bf_run.specs.Outcome.{RunClaim, Stream, ComesOfInput, ComesOfLog, HoldsOfLog, IsRunTold, IsTextOf, fault_of_disk, fault_text, not_a_log_text}
 use Rattle.bf_run.specs.Options.{IsFinished}
 use Rattle.bf_run.specs.Untold.{IsReadAtMost}
 use Rattle.bf_words.specs.Words.{Options, trying}
@@ -106,6 +109,15 @@ module _ {V : Type 0} (seen : V → Option (List ℕ)) (may_leave : V → List �
       (text ≡ not_a_log_text at) × IfTold (seen old) (λ file. RefusedAt first_state StepsTo file at)
       × OnlyRead seen may_leave moment left_since old new × (fault_count new ≤ fault_count old)
   IsRunOverDisk options script old new other text = ⊥
+
+-- a script was run over the log under a path with the options of the demonstration: the status, and at Done these lines, which are what
+-- is shown of the report
+abbrev pub IsShownRun : {V : Type 0} → List ℕ → Shelving V → Script → List ℕ → Status → List ℕ → Type 0
+IsShownRun path shelf script lines Done text =
+    ComesOfLog path shelf Done × (text ≡ lines)
+    × ((report : List ℕ) × IsRunTold demo_options (HoldsOfLog demo_options.finish path shelf Done script) script report × (text ≡ shown_of report))
+IsShownRun path shelf script lines DiskFault text = CountsOne shelf × (text ≡ fault_of_disk)
+IsShownRun path shelf script lines other text = ⊥
 
 -- the answer to a source that is asked to be run over nothing, for the bytes that it tells, or for some
 pub record IsInputAnswer (input : Stream) (status : Status) (text : List ℕ) : Type 0 where

@@ -6,6 +6,8 @@ mod auditing;
 mod changes;
 mod creating;
 pub mod death_laws;
+pub mod demo_laws;
+mod demonstrating;
 mod host;
 pub mod journal_laws;
 mod keeping;

@@ -15,6 +15,7 @@ ghost use Rattle.bf_run.specs.Words.{IfCreating, IfNoPath, IfRunning, asked_opti
 ghost use Rattle.bf_words.specs.Words.{asked, running};
 
 use crate::creating::create;
+use crate::demonstrating::demonstrate;
 use crate::host::Host;
 use crate::keeping::{RunOptions, run};
 use crate::status::{Status, fault_line};
@@ -248,6 +249,7 @@ where
             run_input(host, path, options, input, shelf)
         }
         Ok(Words::Create(path)) => create(host.alloc, path, shelf),
+        Ok(Words::Demo { count, path }) => demonstrate(host, count, path, shelf),
         Err(WordsError::Usage) => usage(host.alloc),
     }
 }
@@ -255,8 +257,9 @@ where
 /// Serves the words behind the program's name: `try` runs the script that the input is over a database that is
 /// empty and is not kept, and writes its report; `create` makes an empty log in the file under a path of the shelf,
 /// if it is new or empty, and reads nothing of the input; `run` runs the script over the database that the log under
-/// a path keeps, which it reads first, and adds to the log what the script changes. Each session and worker of `run` asks
-/// the gate before it moves rows, and tells it of each reply.
+/// a path keeps, which it reads first, and adds to the log what the script changes; `demo` makes a log as `create` does,
+/// runs the demonstration of a size over it, and writes the replies to its last session and the last line of the report.
+/// Each session and worker of `run` and `demo` asks the gate before it moves rows, and tells it of each reply.
 ///
 /// The whole text is made before its first byte is written, so want of memory is answered with
 /// nothing written. The time of a run is linear in the input and in the report; beside that each statement

@@ -17,16 +17,21 @@ all_from (d ∷ ds) e =
     let parts = and_parts (nat_lt (digit_value d) 10) (list_all (λ x. nat_lt (digit_value x) 10) ds) e in
     (ltb-true (digit_value d) 10 parts.0, all_from ds parts.1)
 
-pub is_limited : (most : ℕ) (ds : List ℕ) (n : ℕ) → IsNumeral 10 ds → n ≡ digits_value 10 ds → n ≤ most → Some n ≡ limited most ds
-is_limited most ds n h e high =
-    rw (lt-ltb 0 (length ds) h.0, all_pass ds h.1, ← e, le-leb n most high) refl
+pub is_limited : (least most : ℕ) (ds : List ℕ) (n : ℕ) → IsNumeral 10 ds → n ≡ digits_value 10 ds → least ≤ n → n ≤ most → Some n ≡ limited least most ds
+is_limited least most ds n h e low high =
+    rw (lt-ltb 0 (length ds) h.0, all_pass ds h.1, ← e, le-leb least n low, le-leb n most high) refl
 
-pub none_limited : (most : ℕ) (ds : List ℕ) → (IsNumeral 10 ds → digits_value 10 ds ≤ most → ⊥) → None ≡ limited most ds
-none_limited most ds excluded = go (is_decimal ds && nat_le (digits_value 10 ds) most) refl
+abbrev is_within : ℕ → ℕ → List ℕ → Bool
+is_within least most ds =
+    nat_le least (digits_value 10 ds) && nat_le (digits_value 10 ds) most
+
+pub none_limited : (least most : ℕ) (ds : List ℕ) → (IsNumeral 10 ds → least ≤ digits_value 10 ds → digits_value 10 ds ≤ most → ⊥) → None ≡ limited least most ds
+none_limited least most ds excluded = go (is_decimal ds && is_within least most ds) refl
   where
-    go : (t : Bool) → (is_decimal ds && nat_le (digits_value 10 ds) most) ≡ t → None ≡ limited most ds
+    go : (t : Bool) → (is_decimal ds && is_within least most ds) ≡ t → None ≡ limited least most ds
     go false t = rw t refl
     go true t =
-        let outer = and_parts (is_decimal ds) (nat_le (digits_value 10 ds) most) t in
+        let outer = and_parts (is_decimal ds) (is_within least most ds) t in
         let digits = and_parts (nat_lt 0 (length ds)) (list_all (λ d. nat_lt (digit_value d) 10) ds) outer.0 in
-        absurd (excluded (ltb-true 0 (length ds) digits.0, all_from ds digits.1) (leb-true _ _ outer.1))
+        let ends = and_parts (nat_le least (digits_value 10 ds)) (nat_le (digits_value 10 ds) most) outer.1 in
+        absurd (excluded (ltb-true 0 (length ds) digits.0, all_from ds digits.1) (leb-true _ _ ends.0) (leb-true _ _ ends.1))

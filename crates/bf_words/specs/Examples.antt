@@ -1,6 +1,6 @@
 -- Short words for worked examples.
 use Rattle.std.specs.Prelude.{ℕ, Bool, List, Option, Some}
-use Rattle.bf_words.specs.Words.{Asked, creating, running, trying}
+use Rattle.bf_words.specs.Words.{Asked, creating, demonstrating, running, trying}
 
 abbrev pub makes : List ℕ → Option Asked
 makes path = Some (creating path)
@@ -15,3 +15,6 @@ runs path workers retries finish audit = Some (running path (record {
 
 abbrev pub tries : Option Asked
 tries = Some trying
+
+abbrev pub shows : ℕ → List ℕ → Option Asked
+shows count path = Some (demonstrating count path)

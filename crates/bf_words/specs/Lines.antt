@@ -4,7 +4,7 @@ use Rattle.std.specs.List.{position_or_len, before_first, after_first}
 use Rattle.std.specs.Str.{bytes_eq}
 use Rattle.bf_words.specs.Numbers.{number_within}
 use Rattle.bf_words.specs.declared.verb.Verb.{Verb}
-use Rattle.bf_words.specs.declared.verb.Verb.TheVariants.{Create, Run, Try}
+use Rattle.bf_words.specs.declared.verb.Verb.TheVariants.{Create, Run, Try, Demo}
 use Rattle.bf_words.specs.declared.line.Limit.{Limit}
 use Rattle.bf_words.specs.declared.line.Limit.TheVariants.{Workers, Retries}
 use Rattle.bf_words.specs.declared.line.Place.{Place}
@@ -16,12 +16,14 @@ verb_of word =
     if bytes_eq word (codes "create") then Some Create
     else if bytes_eq word (codes "run") then Some Run
     else if bytes_eq word (codes "try") then Some Try
+    else if bytes_eq word (codes "demo") then Some Demo
     else None
 
 -- what has been read, and what the next word is: an option or a word that is none (`Free`), the number of an option
 -- whose name stands before it, or, behind `--`, a word that is no option, whatever it begins with
 pub record Line : Type 0 where
   pub place : Place
+  pub count : Option ℕ
   pub path : Option (List ℕ)
   pub workers : Option ℕ
   pub retries : Option ℕ
@@ -31,6 +33,7 @@ pub record Line : Type 0 where
 abbrev pub nothing_read : Line
 nothing_read = record {
   place = Free;
+  count = None;
   path = None;
   workers = None;
   retries = None;
@@ -49,22 +52,28 @@ abbrev pub with_path : List ℕ → Line → Option Line
 with_path word line =
     if is_some line.path then None else if is_path word then Some (record line { path = Some word }) else None
 
--- a word that is no option: `create` and `run` have a path, `try` has none
+-- the size of an example, from 1 to 1000
+abbrev pub with_count : List ℕ → Line → Option Line
+with_count word line =
+    option_map (λ (number : ℕ). record line { count = Some number }) (number_within 1 1000 word)
+
+-- a word that is no option: `demo` has a count and a path, `create` and `run` have a path, `try` has none
 abbrev pub with_plain : Verb → List ℕ → Line → Option Line
 with_plain Create word line = with_path word line
 with_plain Run word line = with_path word line
 with_plain Try word line = None
+with_plain Demo word line = if is_some line.count then with_path word line else with_count word line
 
 -- the number of workers, from 0 to 8, and how often is tried again, from 0 to 1000; each is given once
 abbrev pub with_workers : List ℕ → Line → Option Line
 with_workers word line =
     if is_some line.workers then None
-    else option_map (λ (number : ℕ). record line { place = Free; workers = Some number }) (number_within 8 word)
+    else option_map (λ (number : ℕ). record line { place = Free; workers = Some number }) (number_within 0 8 word)
 
 abbrev pub with_retries : List ℕ → Line → Option Line
 with_retries word line =
     if is_some line.retries then None
-    else option_map (λ (number : ℕ). record line { place = Free; retries = Some number }) (number_within 1000 word)
+    else option_map (λ (number : ℕ). record line { place = Free; retries = Some number }) (number_within 0 1000 word)
 
 abbrev pub with_number : Limit → List ℕ → Line → Option Line
 with_number Workers word line = with_workers word line
@@ -112,6 +121,7 @@ abbrev pub with_dashed : Verb → List ℕ → Line → Option Line
 with_dashed Run word line = with_option word line
 with_dashed Create word line = None
 with_dashed Try word line = None
+with_dashed Demo word line = None
 
 abbrev pub with_free : Verb → List ℕ → Line → Option Line
 with_free verb word line =

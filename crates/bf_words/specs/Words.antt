@@ -13,11 +13,13 @@ pub record Options : Type 0 where
   pub finish : Bool
   pub audit : Bool
 
--- to make a log under a path, to run a script over the log under a path, or to run one over nothing
+-- to make a log under a path, to run a script over the log under a path, to run one over nothing, or to make a log
+-- under a path and to run an example of a size over it
 pub data Asked : Type 0 where
   creating : List ℕ → Asked
   running : List ℕ → Options → Asked
   trying : Asked
+  demonstrating : ℕ → List ℕ → Asked
 
 -- where no number is given
 abbrev pub usual_workers : ℕ
@@ -40,6 +42,7 @@ abbrev pub finished : Verb → Line → Option Asked
 finished verb.Create line = option_map creating line.path
 finished verb.Run line = option_map (λ path. running path (options_of line)) line.path
 finished verb.Try line = Some trying
+finished verb.Demo line = option_and_then (λ count. option_map (demonstrating count) line.path) line.count
 
 -- what a line asks for, where no option lacks its number
 abbrev pub ended : Verb → Line → Option Asked
@@ -65,11 +68,13 @@ asked_by (words.Run path workers retries finish audit) = running path.now (recor
   audit = audit;
 })
 asked_by words.Try = trying
+asked_by (words.Demo count path) = demonstrating count path.now
 
 -- a line as it was read
 abbrev pub seen : ReadLine → Line
 seen line = record {
   place = line.place;
+  count = line.count;
   path = option_map (λ p. p.now) line.path;
   workers = line.workers;
   retries = line.retries;

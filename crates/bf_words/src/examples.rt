@@ -2,16 +2,20 @@
 
 ghost use Rattle.std.specs.Prelude.{◌≡◌, [], ◌∷◌, codes, None, false, true};
 ghost use Rattle.bf_words.specs.Words.{asked};
-ghost use Rattle.bf_words.specs.Examples.{makes, runs, tries};
+ghost use Rattle.bf_words.specs.Examples.{makes, runs, shows, tries};
 
 /// What each first word asks for.
 pub fn each_first_word_asks()
     ensures a_new_log { asked (codes "create" ∷ codes "x" ∷ []) ≡ makes (codes "x") }
     ensures a_run { asked (codes "run" ∷ codes "x" ∷ []) ≡ runs (codes "x") 2 15 false false }
     ensures a_try { asked (codes "try" ∷ []) ≡ tries }
+    ensures a_demonstration { asked (codes "demo" ∷ codes "1" ∷ codes "x" ∷ []) ≡ shows 1 (codes "x") }
+    ensures the_largest { asked (codes "demo" ∷ codes "1000" ∷ codes "x" ∷ [])
+        ≡ shows 1000 (codes "x") }
+    ensures of_nothing { asked (codes "demo" ∷ codes "0" ∷ codes "x" ∷ []) ≡ None }
+    ensures too_large { asked (codes "demo" ∷ codes "1001" ∷ codes "x" ∷ []) ≡ None }
     ensures no_words { asked ([]) ≡ None }
     ensures another_word { asked (codes "go" ∷ []) ≡ None }
-    ensures not_served { asked (codes "demo" ∷ codes "1" ∷ codes "x" ∷ []) ≡ None }
     ensures a_longer_word { asked (codes "runs" ∷ codes "x" ∷ []) ≡ None }
     ensures another_case { asked (codes "Run" ∷ codes "x" ∷ []) ≡ None }
     ensures words_behind_try { asked (codes "try" ∷ codes "x" ∷ []) ≡ None }
@@ -32,6 +36,9 @@ pub fn paths_are_words()
         ≡ runs (codes "-x") 2 15 false false }
     ensures dashes_behind { asked (codes "create" ∷ codes "--" ∷ codes "--" ∷ []) ≡ makes (codes "--") }
     ensures ended_behind { asked (codes "create" ∷ codes "x" ∷ codes "--" ∷ []) ≡ makes (codes "x") }
+    ensures number_alone { asked (codes "demo" ∷ codes "5" ∷ []) ≡ None }
+    ensures dashed_demonstration { asked (codes "demo" ∷ codes "5" ∷ codes "--" ∷ codes "-x" ∷ [])
+        ≡ shows 5 (codes "-x") }
     ensures not_for_try { asked (codes "try" ∷ codes "--" ∷ codes "x" ∷ []) ≡ None }
 {}
 

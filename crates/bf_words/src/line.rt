@@ -2,7 +2,7 @@
 
 ghost use Rattle.std.specs.Prelude.{◌≡◌, Some, map};
 ghost use Rattle.std.specs.Option.{option_map};
-ghost use Rattle.bf_words.specs.Lines.{begins_with_dash, is_path, nothing_read, with_audit, with_dashed};
+ghost use Rattle.bf_words.specs.Lines.{begins_with_dash, is_path, nothing_read, with_audit, with_count, with_dashed};
 ghost use Rattle.bf_words.specs.Lines.{with_finish, with_free, with_name, with_number, with_option, with_path, with_plain};
 ghost use Rattle.bf_words.specs.Lines.{with_retries, with_value, with_word, with_words, with_workers};
 ghost use Rattle.bf_words.specs.Words.{asked_by, ended, finished, seen};
@@ -14,6 +14,8 @@ use crate::words::Words;
 const MOST_WORKERS: u16 = 8;
 
 const MOST_RETRIES: u16 = 1000;
+
+const LARGEST_EXAMPLE: u16 = 1000;
 
 const WORKERS: u8 = 2;
 
@@ -41,6 +43,7 @@ pub(crate) enum Place {
 #[derive(Clone, Copy, Debug)]
 pub(crate) struct Line<'a> {
     place: Place,
+    count: Option<u16>,
     path: Option<&'a str>,
     workers: Option<u8>,
     retries: Option<u16>,
@@ -54,6 +57,7 @@ impl<'a> Line<'a> {
     {
         Line {
             place: Place::Free,
+            count: None,
             path: None,
             workers: None,
             retries: None,
@@ -109,6 +113,7 @@ impl<'a> Line<'a> {
             Verb::Run => self.with_option(word),
             Verb::Create => None,
             Verb::Try => None,
+            Verb::Demo => None,
         }
     }
 
@@ -186,7 +191,7 @@ impl<'a> Line<'a> {
         if self.workers.is_some() {
             return None;
         }
-        let number = number_within(MOST_WORKERS, word)?;
+        let number = number_within(0, MOST_WORKERS, word)?;
         self.place = Place::Free;
         self.workers = Some(number as u8);
         Some(self)
@@ -198,7 +203,7 @@ impl<'a> Line<'a> {
         if self.retries.is_some() {
             return None;
         }
-        let number = number_within(MOST_RETRIES, word)?;
+        let number = number_within(0, MOST_RETRIES, word)?;
         self.place = Place::Free;
         self.retries = Some(number);
         Some(self)
@@ -211,6 +216,13 @@ impl<'a> Line<'a> {
             Verb::Create => self.with_path(word),
             Verb::Run => self.with_path(word),
             Verb::Try => None,
+            Verb::Demo => {
+                if self.count.is_some() {
+                    self.with_path(word)
+                } else {
+                    self.with_count(word)
+                }
+            }
         }
     }
 
@@ -226,6 +238,14 @@ impl<'a> Line<'a> {
         } else {
             None
         }
+    }
+
+    fn with_count(mut self, word: &str) -> Option<Line<'a>>
+        ensures { option_map seen result ≡ with_count word.now (seen self.entry) }
+    {
+        let number = number_within(1, LARGEST_EXAMPLE, word)?;
+        self.count = Some(number);
+        Some(self)
     }
 
     /// What the line asks for, where no option lacks its number and the first word lacks nothing.
@@ -252,6 +272,13 @@ impl<'a> Line<'a> {
                 audit: self.audit,
             }),
             Verb::Try => Some(Words::Try),
+            Verb::Demo => {
+                let count = self.count?;
+                Some(Words::Demo {
+                    count,
+                    path: self.path?,
+                })
+            }
         }
     }
 }

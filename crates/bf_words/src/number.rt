@@ -3,13 +3,13 @@
 ghost use Rattle.std.specs.Prelude.{◌≡◌, ◌≤◌, IfSome};
 ghost use Rattle.bf_words.specs.Numbers.{number_within};
 
-/// The number that a word writes, `most` at most: decimal digits, behind one `+` or none.
-pub(crate) fn number_within(most: u16, word: &str) -> Option<u16>
-    ensures exact { result ≡ number_within most word.now }
+/// The number that a word writes, from `least` to `most`: decimal digits, behind one `+` or none.
+pub(crate) fn number_within(least: u16, most: u16, word: &str) -> Option<u16>
+    ensures exact { result ≡ number_within least most word.now }
     ensures limited { IfSome result (λ number. number ≤ most) }
 {
     match word.parse::<u16>() {
-        Ok(number) if number <= most => Some(number),
+        Ok(number) if least <= number && number <= most => Some(number),
         _ => None,
     }
 }

@@ -12,6 +12,8 @@ pub(crate) enum Verb {
     Run,
     /// To run a script over nothing.
     Try,
+    /// To make a log and to run an example over it.
+    Demo,
 }
 
 impl Verb {
@@ -25,6 +27,8 @@ impl Verb {
             Some(Verb::Run)
         } else if word == "try" {
             Some(Verb::Try)
+        } else if word == "demo" {
+            Some(Verb::Demo)
         } else {
             None
         }

@@ -27,6 +27,12 @@ pub enum Words<'a> {
     },
     /// To run the script of the input over a database that is not kept.
     Try,
+    /// To make a log under a path and to run an example over it.
+    Demo {
+        /// How large the example is, 1 to 1000.
+        count: u16,
+        path: &'a str,
+    },
 }
 
 /// Why words were not read.

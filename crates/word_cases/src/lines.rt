@@ -19,6 +19,7 @@ fn tell_words(words: Words, told: &mut String) -> anyhow::Result<()> {
             "run {path} workers {workers} retries {retries} finish {finish} audit {audit}"
         )?,
         Words::Try => write!(told, "try")?,
+        Words::Demo { count, path } => write!(told, "demo {count} {path}")?,
     }
     Ok(())
 }

@@ -15,9 +15,9 @@ use Rattle.bf_parse.specs.Scripts.{IsScriptText}
 use Rattle.bf_run.specs.declared.status.Status.{Status}
 use Rattle.bf_run.specs.declared.status.Status.TheVariants.{Done, Usage, Script as ScriptError, ReadFault, WriteFault, DiskFault, NotALog, NotEmpty, Memory}
 use Rattle.bf_run.specs.Creating.{Shelving, WhereHeld, IsEmptyFile, IsNewLog, HasBytes, TellsFiles}
-use Rattle.bf_run.specs.Outcome.{Stream, IsScript, IsDetermined, Comes, ComesOfWords, ComesOfInput, ComesOfFile, ComesOfRun}
+use Rattle.bf_run.specs.Outcome.{Stream, IsScript, IsDetermined, Comes, ComesOfWords, ComesOfInput, ComesOfDemonstration, ComesOfFile, ComesOfRun}
 use Rattle.bf_run.specs.Running.{IsLogOf, IsRefusedLog, IsTaken, OpensTo}
-use Rattle.bf_words.specs.Words.{Asked, creating, running, trying}
+use Rattle.bf_words.specs.Words.{Asked, creating, demonstrating, running, trying}
 use Rattle.bf_run.proofs.one.Reading.{one_fault, not_both}
 
 -- of words that ask for nothing
@@ -259,6 +259,40 @@ module _ {V : Type 0} (shelf : Shelving V) (path : List ℕ) (tells : TellsFiles
     one_of_run WriteFault other d e p q = absurd p.1
     one_of_run (NotEmpty n) other d e p q = absurd p.1
 
+-- the demonstration makes a log where it could be made, and else is refused
+one_of_demonstration : {V : Type 0} (path : List ℕ) (shelf : Shelving V) (held_after : Option (ByPath V)) (faults_after : ℕ) (one other : Status) → TellsFiles shelf
+    → IsDetermined one → IsDetermined other → ComesOfDemonstration path shelf one
+    → ComesOfDemonstration path (record shelf { held_after = held_after; faults_after = faults_after }) other → one ≡ other
+unfolding too
+one_of_demonstration path shelf held_after faults_after Done Done tells d e p q = refl
+one_of_demonstration path shelf held_after faults_after Done (NotEmpty n) tells d e p q =
+    one_of_file (record shelf { held_after = p.0; faults_after = p.1 }) path tells held_after faults_after Done (NotEmpty n) d e p.2 q
+one_of_demonstration path shelf held_after faults_after (NotEmpty n) Done tells d e p q =
+    one_of_file shelf path tells q.0 q.1 (NotEmpty n) Done d e p q.2
+one_of_demonstration path shelf held_after faults_after (NotEmpty n) (NotEmpty m) tells d e p q =
+    one_of_file shelf path tells held_after faults_after (NotEmpty n) (NotEmpty m) d e p q
+one_of_demonstration path shelf held_after faults_after Done Usage tells d e p q = absurd q
+one_of_demonstration path shelf held_after faults_after Done (ScriptError f) tells d e p q = absurd q
+one_of_demonstration path shelf held_after faults_after Done (NotALog at) tells d e p q = absurd q
+one_of_demonstration path shelf held_after faults_after Done ReadFault tells d e p q = absurd e
+one_of_demonstration path shelf held_after faults_after Done WriteFault tells d e p q = absurd e
+one_of_demonstration path shelf held_after faults_after Done DiskFault tells d e p q = absurd e
+one_of_demonstration path shelf held_after faults_after Done Memory tells d e p q = absurd e
+one_of_demonstration path shelf held_after faults_after (NotEmpty n) Usage tells d e p q = absurd q
+one_of_demonstration path shelf held_after faults_after (NotEmpty n) (ScriptError f) tells d e p q = absurd q
+one_of_demonstration path shelf held_after faults_after (NotEmpty n) (NotALog at) tells d e p q = absurd q
+one_of_demonstration path shelf held_after faults_after (NotEmpty n) ReadFault tells d e p q = absurd e
+one_of_demonstration path shelf held_after faults_after (NotEmpty n) WriteFault tells d e p q = absurd e
+one_of_demonstration path shelf held_after faults_after (NotEmpty n) DiskFault tells d e p q = absurd e
+one_of_demonstration path shelf held_after faults_after (NotEmpty n) Memory tells d e p q = absurd e
+one_of_demonstration path shelf held_after faults_after Usage other tells d e p q = absurd p
+one_of_demonstration path shelf held_after faults_after (ScriptError f) other tells d e p q = absurd p
+one_of_demonstration path shelf held_after faults_after (NotALog at) other tells d e p q = absurd p
+one_of_demonstration path shelf held_after faults_after ReadFault other tells d e p q = absurd d
+one_of_demonstration path shelf held_after faults_after WriteFault other tells d e p q = absurd d
+one_of_demonstration path shelf held_after faults_after DiskFault other tells d e p q = absurd d
+one_of_demonstration path shelf held_after faults_after Memory other tells d e p q = absurd d
+
 pub one_status : {V : Type 0} (asks : Option Asked) (input : Stream) (bytes : List ℕ) (shelf : Shelving V) (held_after : Option (ByPath V))
     (faults_after : ℕ) (one other : Status) → TellsFiles shelf → IsDetermined one → IsDetermined other → Comes asks input bytes shelf one
     → Comes asks input bytes (record shelf { held_after = held_after; faults_after = faults_after }) other → one ≡ other
@@ -269,3 +303,5 @@ one_status (Some (creating path)) input bytes shelf held_after faults_after one 
     one_of_file shelf path tells held_after faults_after one other d e p.1 q.1
 one_status (Some (running path options)) input bytes shelf held_after faults_after one other tells d e p q =
     one_of_run shelf path tells held_after faults_after input bytes one other d e p q
+one_status (Some (demonstrating count path)) input bytes shelf held_after faults_after one other tells d e p q =
+    one_of_demonstration path shelf held_after faults_after one other tells d e p.1 q.1

@@ -1,0 +1,15 @@
+pub mod Keys
+pub mod States
+pub mod Opening
+pub mod Splitting
+pub mod Crediting
+pub mod Summing
+pub mod Grouping
+pub mod Replaying
+pub mod Phasing
+pub mod Committing
+pub mod LastReplies
+pub mod Counting
+pub mod Telling
+pub mod Steps
+pub mod Lines
