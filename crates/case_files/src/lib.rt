@@ -5,7 +5,9 @@
 #![tactic(auto)]
 
 mod cases;
+mod escapes;
 mod words;
 
 pub use cases::{Teller, compare_file, compare_files};
+pub use escapes::unescaped;
 pub use words::{bytes_of, first_word, tell_bytes};

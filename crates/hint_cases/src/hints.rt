@@ -1,11 +1,11 @@
 //! What is told of the texts of a file.
 
-use crate::bytes::{bytes_of, tell_text};
+use crate::tabs::tell_text;
 use anyhow::{Context, bail};
 use bf_hints::{KeptText, file_hint, script_hint, usage_hint};
 use bf_lex::{ScriptError, ScriptFault, ScriptKind};
 use bf_parse::script;
-use case_files::Teller;
+use case_files::{Teller, unescaped};
 use std::alloc::Global;
 use std::io;
 
@@ -52,14 +52,14 @@ fn tell_place(alloc: Global, text: &str, told: &mut String) -> anyhow::Result<()
         at: at.parse::<u32>()?,
         kind: ScriptKind::BadByte,
     };
-    let bytes = bytes_of(alloc, text)?;
+    let bytes = unescaped(alloc, text)?;
     let hint = script_hint(alloc, bytes.as_slice(), fault)?;
     tell_text(hint.as_str(), told)
 }
 
 /// Adds the hint of a text's first fault, or that it is a script. The text is kept as it is when read in pieces.
 fn tell_script(alloc: Global, text: &str, told: &mut String) -> anyhow::Result<()> {
-    let bytes = bytes_of(alloc, text)?;
+    let bytes = unescaped(alloc, text)?;
     let mut kept = KeptText::new(alloc);
     for piece in bytes.as_slice().chunks(7) {
         kept.add(piece);

@@ -5,8 +5,8 @@
 //! something else is told is told with that, and ends the program with status 1.
 #![tactic(auto)]
 
-mod bytes;
 mod hints;
+mod tabs;
 
 use anyhow::Context;
 use case_files::compare_file;

@@ -1,6 +1,5 @@
 //! What is told of the texts of a file.
 
-use crate::bytes::bytes_of;
 use crate::orders::{tell_granules, tell_keys};
 use crate::phrases::{tell_condition, tell_expression, tell_literal};
 use crate::reports::tell_report;
@@ -9,7 +8,7 @@ use crate::tables::{tell_fit, tell_key};
 use crate::trees::tell_tree;
 use crate::words::{tell_keyword, tell_name, tell_sign, tell_text};
 use crate::writing::{tell_numbers, tell_refusal, tell_values};
-use case_files::Teller;
+use case_files::{Teller, unescaped};
 use std::alloc::Global;
 
 /// What the cases of a file are about.
@@ -78,7 +77,7 @@ impl Subject {
 
     /// Adds what is told of a line, or of a text where nothing is told of its lines.
     fn tell_part(self, alloc: Global, part: &str, told: &mut String) -> anyhow::Result<()> {
-        let bytes = bytes_of(alloc, part)?;
+        let bytes = unescaped(alloc, part)?;
         let bytes = bytes.as_slice();
         match self {
             Subject::Blanks => tell_blanks(alloc, part, told),

@@ -1,4 +1,4 @@
-//! Bytes of texts, and back.
+//! Texts in which bytes are escaped.
 
 use anyhow::Context;
 use std::alloc::Global;
@@ -12,7 +12,7 @@ fn put_escaped(part: &str, bytes: &mut Vec<u8>) -> anyhow::Result<()> {
 }
 
 /// The bytes of a text in which `\x` and two digits stand for a byte.
-pub fn bytes_of(alloc: Global, text: &str) -> anyhow::Result<Vec<u8>> {
+pub fn unescaped(alloc: Global, text: &str) -> anyhow::Result<Vec<u8>> {
     let mut bytes = Vec::new(alloc);
     let (front, _) = text.split_once("\\x").unwrap_or((text, ""));
     bytes.extend_from_slice(front.as_bytes())?;
@@ -20,16 +20,4 @@ pub fn bytes_of(alloc: Global, text: &str) -> anyhow::Result<Vec<u8>> {
         put_escaped(part, &mut bytes)?;
     }
     Ok(bytes)
-}
-
-/// Adds a text, with `\x09` for each tab.
-pub fn tell_text(text: &str, told: &mut String) -> anyhow::Result<()> {
-    for character in text.chars() {
-        if character == '\t' {
-            told.push_str("\\x09")?;
-        } else {
-            told.push(character)?;
-        }
-    }
-    Ok(())
 }
