@@ -17,6 +17,6 @@ pub use journal::{Journal, KeepError, Unkept};
 pub use lookups::Lookups;
 pub use machine::{Machine, Parts};
 pub use opened::Opened;
-pub use serving::{in_order, move_records, prepare_next};
+pub use serving::{in_order, lock_all, move_records, prepare_next};
 pub use so_far::Pending;
-pub use stand::{Ending, MoveError, Stand, Step};
+pub use stand::{Ending, MoveError, Stand, Step, Turn};

@@ -16,7 +16,7 @@ ghost use Rattle.bf_machine.specs.interleaving.Events.{Begins, Moves, Reaches};
 ghost use Rattle.bf_machine.specs.interleaving.Journals.{AreSaid, IsOneRecord, Keeps, KeepsOrIsRefused};
 ghost use Rattle.bf_machine.specs.interleaving.Kept.{IsKept};
 ghost use Rattle.bf_machine.specs.interleaving.Machines.{Machine as Seen, Open, open_at, these};
-ghost use Rattle.bf_machine.specs.interleaving.Serving.{CanGo, CannotGo, Driven, HasLocked, HasMovedFirst, HasMovedNeed, HasMovedSome, HasReply, IsAlone, IsBoundNext, IsCommit, IsEndIfAnswered, IsFollowed, IsInSequence, IsPreparedNext, IsToLock, IsTurn, IsTurnOf, IsYoungest, LeavesStore, MovesAll, Serves, Turned, can_go, deaths_at, unanswered};
+ghost use Rattle.bf_machine.specs.interleaving.Serving.{CanGo, CannotGo, Driven, HasLocked, HasMovedFirst, HasMovedNeed, HasMovedSome, HasReply, IsAlone, IsBoundNext, IsCommit, IsEndIfAnswered, IsFollowed, IsInSequence, IsOfLocks, IsPreparedNext, IsToLock, IsTurn, IsTurnOf, IsYoungest, LeavesStore, MovesAll, Serves, Turned, can_go, deaths_at, unanswered};
 ghost use Rattle.bf_machine.specs.declared.stand.Turn.TheVariants.{Served};
 
 use crate::journal::{Journal, KeepError};
@@ -35,8 +35,12 @@ use bf_tree::Bound;
 use std::alloc::Global;
 use std::sync::Wait;
 
-/// Asks for locks, one after the other, until one is not granted.
-fn lock_all<N: Opened>(
+/// Asks for the locks of the footprint of a session's next statement, one after the other, until one is not granted. It costs
+/// what [`Machine::lock`] does for each.
+///
+/// # Errors
+/// Where memory runs out. Some may be held then.
+pub fn lock_all<N: Opened>(
     machine: &mut Machine<N>,
     session: u32,
     locks: &[(LockName, Mode)],
@@ -49,6 +53,8 @@ fn lock_all<N: Opened>(
     ensures locked { result ≡ Ok Served → HasLocked machine.old session locks.now machine.new }
     ensures turn { IfOk result (λ turn. turn ≢ Served
         → IsTurn machine.old session N.opening turn machine.new) }
+    ensures of_locks { IfOk result IsOfLocks }
+    ensures same { machine.new.db ≡ machine.old.db }
 {
     for (name, mode) in locks {
         match machine.lock(session, name, *mode)? {

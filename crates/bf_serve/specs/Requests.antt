@@ -89,11 +89,14 @@ pub record StandsAt (m : Machine) (p : Position) : Type 0 where
 abbrev pub HoldsAll : Machine → Request → Type 0
 HoldsAll m r = All (λ lock. IsCovered m r.at.session lock.0 lock.1) r.locks
 
+abbrev pub HoldsIfOpen : Machine → Request → Type 0
+HoldsIfOpen m r = (o : Open) → open_at m r.at.session ≡ Some o → HoldsAll m r
+
 -- READY: the machine stands at the request, with the same last migration, and where a group is open it holds the locks
 pub record IsReady (m : Machine) (r : Request) : Type 0 where
   pub stands : StandsAt m r.at
   pub migration : option_map (λ (p : Where Migration). p.value) r.at.migration ≡ option_map (λ (p : Where Migration). p.value) m.pass
-  pub held : (o : Open) → open_at m r.at.session ≡ Some o → HoldsAll m r
+  pub held : HoldsIfOpen m r
 
 -- nothing that it needs is left to move
 abbrev pub NeedsNothing : Machine → Request → Type 0

@@ -1,5 +1,5 @@
-//! What a thread does to the machine and its journal in one section under their lock: a lock that it asks for, a statement that has its
-//! reply, a group that ends, granules that move. Each is one event beside the journal, or none.
+//! What a thread does to the machine and its journal under their lock: a statement's locks are asked for and it has its reply, a
+//! group ends, granules move. Each is some events beside the journal, or none.
 
 ghost use Rattle.std.specs.Prelude.{◌≡◌, ◌≢◌, ◌⊎◌, ◌<◌, ℕ, All, IfOk, IfSome, IsSomeAnd, IsTrue, None, Ok, Some, false, length, nat_eq, not, true};
 ghost use Rattle.std.specs.Option.{option_map};
@@ -16,15 +16,14 @@ ghost use Rattle.bf_tree.specs.declared.reply.Cause.{Cause as Told};
 ghost use Rattle.bf_machine.specs.interleaving.Kept.{is_of_log};
 ghost use Rattle.bf_machine.specs.interleaving.Machines.{Open, open_at};
 ghost use Rattle.bf_machine.specs.interleaving.Serving.{LeavesStore};
-ghost use Rattle.bf_serve.specs.Requests.{HoldsAll, IsCoverAt, IsPresentCatalog, IsReady, NeedsNothing, StandsAt};
-ghost use Rattle.bf_serve.specs.Sections.{AreNeededIfAny, IsAskedAs};
+ghost use Rattle.bf_serve.specs.Requests.{HoldsIfOpen, IsCoverAt, IsPresentCatalog, IsReady, NeedsNothing, StandsAt};
+ghost use Rattle.bf_serve.specs.Sections.{IsAskedAs, IsRanAs, IsRanHeld};
 
 use crate::catalogs::copy_of;
 use crate::requests::{Position, Request};
 use bf_base::{Granule, Memory};
 use bf_image::{CatalogPass, MigrationPass, Registry, ValueIndexes};
-use bf_locks::{LockAnswer, LockName, Mode};
-use bf_machine::{Journal, Machine, MoveError, Opened, Stand, Step};
+use bf_machine::{Journal, Machine, MoveError, Opened, Stand, Step, Turn, lock_all};
 use bf_store::Images;
 use bf_trackers::Work;
 use bf_transpose::Cover;
@@ -82,78 +81,56 @@ fn are_equal(one: bool, other: bool) -> bool
     one == other
 }
 
-/// How a lock was asked for.
+/// How the locks of a statement were asked for.
 #[derive(Clone, Copy, Debug, PartialEq, Eq)]
 pub(crate) enum Asked {
+    /// Its group holds them all.
     Granted,
-    /// Others hold it, all of them younger.
+    /// Others hold one of them, all of them younger.
     Waits,
-    /// An older group holds it, and the attempt has ended.
+    /// An older group holds one of them, and the attempt has ended.
     Died,
     /// The machine does not stand there any more.
     Elsewhere,
 }
 
-/// Asks for one lock of a statement that was made ready, if the machine still stands there.
+/// Asks for the locks of a statement that was made ready, one after the other up to the first that is not granted, if the
+/// machine still stands there.
 ///
 /// # Errors
-/// Where memory runs out. The machine is as it was then.
-#[tactic(auto, using(crate::proofs::threads::Coming::leaves_same, crate::proofs::threads::Coming::leaves_asked))]
-pub(crate) fn ask_for<N: Opened>(
+/// Where memory runs out. Some may be held then.
+#[tactic(auto, using(crate::proofs::threads::Coming::leaves_same))]
+fn ask_for_all<N: Opened>(
     registry: &Registry,
     machine: &mut Machine<N>,
     catalog: &Option<CatalogPass>,
     request: &Request<N>,
-    index: usize,
 ) -> Result<Asked, Memory>
     requires registry { registry.now ≡ N.registry }
     requires place { IsPlace machine.old.script request.now.at.session }
     requires present { IsPresentCatalog N.registry machine.old catalog.now }
-    requires index { index < length request.now.locks }
     ensures leaves { LeavesStore N.opening machine.old machine.new }
     ensures present { IsPresentCatalog N.registry machine.new catalog.now }
-    ensures asked { IfOk result (IsAskedAs N.opening machine.old request.now index machine.new) }
+    ensures same { machine.new.script ≡ machine.old.script }
+    ensures asked { IfOk result (IsAskedAs N.opening machine.old request.now machine.new) }
 {
     // Its contract says that the script is the one that the type names, and what a machine keeps.
     let _ = machine.script();
     let session = request.at().session();
+    if request.locks().is_empty() {
+        return Ok(Asked::Granted);
+    }
     if !stands_at(registry, machine, catalog, request.at()) {
         return Ok(Asked::Elsewhere);
     }
     let Some(_) = machine.start(session) else {
         return Ok(Asked::Elsewhere);
     };
-    let (name, mode) = &request.locks()[index];
-    match machine.lock(session, name, *mode)? {
-        LockAnswer::Granted => Ok(Asked::Granted),
-        LockAnswer::Wait(_) => Ok(Asked::Waits),
-        LockAnswer::Die(_) => Ok(Asked::Died),
-    }
-}
-
-/// Whether a session's open group holds some locks.
-fn holds_all<N: Opened>(machine: &Machine<N>, session: u32, locks: &[(LockName, Mode)]) -> bool
-    requires { IsPlace machine.now.script session }
-    ensures { IsTrue result → All (λ lock. IsCovered machine.now session lock.0 lock.1) locks.now }
-{
-    for (name, mode) in locks {
-        if !machine.covers(session, name, *mode) {
-            return false;
-        }
-    }
-    true
-}
-
-/// Whether a session's open group, if there is one, holds all locks of a statement that was made ready.
-fn holds_if_open<N: Opened>(machine: &Machine<N>, request: &Request<N>) -> bool
-    requires { IsPlace machine.now.script request.now.at.session }
-    ensures { IsTrue result → (o : Open) → open_at machine.now request.now.at.session ≡ Some o
-        → HoldsAll machine.now request.now }
-{
-    let session = request.at().session();
-    match machine.start(session) {
-        Some(_) => holds_all(machine, session, request.locks()),
-        None => true,
+    match lock_all(machine, session, request.locks())? {
+        Turn::Served => Ok(Asked::Granted),
+        Turn::Waited => Ok(Asked::Waits),
+        Turn::Died => Ok(Asked::Died),
+        Turn::Passed | Turn::Ended(_) => unreachable!(),
     }
 }
 
@@ -178,14 +155,18 @@ pub(crate) enum Ran {
     Replied,
     /// These granules of the last migration are to move first.
     Need(Vec<Granule>),
+    /// Others hold a lock of it, all of them younger.
+    Waits,
+    /// An older group holds a lock of it, and the attempt has ended.
+    Died,
     /// What it needs of the last migration has to be looked for first.
     Uncovered,
     /// The machine does not stand there any more, or what it was made ready by has changed.
     Elsewhere,
 }
 
-/// Whether a statement that was made ready may have its reply, or be told what it needs: the machine still stands there, in the
-/// same catalog and with the same last migration, and its group holds the locks.
+/// Whether a statement whose locks are held may have its reply, or be told what it needs: the machine still stands there, in the
+/// same catalog and with the same last migration.
 fn is_ready<N: Opened>(
     registry: &Registry,
     machine: &Machine<N>,
@@ -195,6 +176,7 @@ fn is_ready<N: Opened>(
     requires registry { registry.now ≡ N.registry }
     requires place { IsPlace machine.now.script request.now.at.session }
     requires present { IsPresentCatalog N.registry machine.now catalog.now }
+    requires held { HoldsIfOpen machine.now request.now }
     ensures { IsTrue result → IsReady machine.now request.now }
 {
     let at = request.at();
@@ -202,10 +184,7 @@ fn is_ready<N: Opened>(
     if !stands_at(registry, machine, catalog, at) {
         return false;
     }
-    if !are_one(registry, at.migration(), pass.as_ref()) {
-        return false;
-    }
-    holds_if_open(machine, request)
+    are_one(registry, at.migration(), pass.as_ref())
 }
 
 /// Whether nothing that a statement needs is left to move, as far as that is told without a row made: nothing of the last
@@ -251,7 +230,7 @@ fn run_ready<N: Opened>(
     requires cover { IsCoverAt machine.old request.now cover.now }
     ensures leaves { LeavesStore N.opening machine.old machine.new }
     ensures same { machine.new.db ≡ machine.old.db }
-    ensures needs { IfOk result (AreNeededIfAny request.now) }
+    ensures ran { IfOk result (IsRanHeld request.now) }
 {
     // Its contract says that the script is the one that the type names, and what a machine keeps.
     let _ = machine.script();
@@ -264,13 +243,12 @@ fn run_ready<N: Opened>(
     }
 }
 
-/// Replies to a statement that was made ready, if the machine still stands there, its locks are held, and nothing that it
-/// needs is left to move.
+/// Replies to a statement whose locks are held, if the machine still stands there, and nothing that it needs is left to move.
 ///
 /// # Errors
 /// Where memory runs out, or 2 ^ 32 rows or more change. The machine is as it was then.
 #[tactic(auto, using(crate::proofs::threads::Coming::leaves_same))]
-pub(crate) fn run_statement<N: Opened>(
+fn run_held<N: Opened>(
     alloc: Global,
     registry: &Registry,
     machine: &mut Machine<N>,
@@ -280,9 +258,10 @@ pub(crate) fn run_statement<N: Opened>(
     requires registry { registry.now ≡ N.registry }
     requires place { IsPlace machine.old.script request.now.at.session }
     requires present { IsPresentCatalog N.registry machine.old catalog.now }
+    requires held { HoldsIfOpen machine.old request.now }
     ensures leaves { LeavesStore N.opening machine.old machine.new }
     ensures present { IsPresentCatalog N.registry machine.new catalog.now }
-    ensures needs { IfOk result (AreNeededIfAny request.now) }
+    ensures ran { IfOk result (IsRanHeld request.now) }
 {
     if !is_ready(registry, machine, catalog, request) {
         return Ok(Ran::Elsewhere);
@@ -299,6 +278,32 @@ pub(crate) fn run_statement<N: Opened>(
         granules: Vec::new(alloc),
     };
     run_ready(registry, machine, request, &nothing)
+}
+
+/// Asks for the locks of a statement that was made ready, and replies to it where its group holds them all.
+///
+/// # Errors
+/// Where memory runs out, or 2 ^ 32 rows or more change. Some of its locks may be held then.
+pub(crate) fn run_statement<N: Opened>(
+    alloc: Global,
+    registry: &Registry,
+    machine: &mut Machine<N>,
+    catalog: &Option<CatalogPass>,
+    request: &Request<N>,
+) -> Result<Ran, Memory>
+    requires registry { registry.now ≡ N.registry }
+    requires place { IsPlace machine.old.script request.now.at.session }
+    requires present { IsPresentCatalog N.registry machine.old catalog.now }
+    ensures leaves { LeavesStore N.opening machine.old machine.new }
+    ensures present { IsPresentCatalog N.registry machine.new catalog.now }
+    ensures ran { IfOk result (IsRanAs N.opening machine.old request.now machine.new) }
+{
+    match ask_for_all(registry, machine, catalog, request)? {
+        Asked::Granted => run_held(alloc, registry, machine, catalog, request),
+        Asked::Waits => Ok(Ran::Waits),
+        Asked::Died => Ok(Ran::Died),
+        Asked::Elsewhere => Ok(Ran::Elsewhere),
+    }
 }
 
 /// Commits a session's group, adds the catalog to the registry where it has changed, and tells whether it has.

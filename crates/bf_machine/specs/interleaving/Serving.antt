@@ -250,6 +250,13 @@ module _ (m : Machine) (s : ℕ) where
   IsTurn start turn.Died next = (older : ℕ) × (asked : IsAsked start (Die older)) × (next ≡ died asked.now s asked.o older)
   IsTurn start (turn.Ended cause) next = HasFailed start cause next
 
+-- OF LOCKS: a turn that asks for locks alone gets them all, waits or dies
+abbrev pub IsOfLocks : Turn → Type 0
+IsOfLocks turn.Served = Unit {0}
+IsOfLocks turn.Waited = Unit {0}
+IsOfLocks turn.Died = Unit {0}
+IsOfLocks other = ⊥
+
 -- MOVED: granules of the last migration, by one record after the other
 pub data MovesAll (m : Machine) : List Granule → Machine → Type 0 where
   no_move : MovesAll m [] m

@@ -16,7 +16,7 @@ use Rattle.bf_machine.proofs.serving.lock_all.Goals as goal
 pub loop-name-init : goal.loop-name-init
 loop-name-init g c =
     let next = c.requires.next in
-    record { reaches = at_once; leaves = leaves_not g.N.Opened.opening c.args.machine.now c.args.machine.now refl; locked = (next.0, next.1.is, c.args.machine.now.locks, refl, λ k d within. absurd (omega (arith, within))) }
+    record { reaches = at_once; leaves = leaves_not g.N.Opened.opening c.args.machine.now c.args.machine.now refl; same = refl; locked = (next.0, next.1.is, c.args.machine.now.locks, refl, λ k d within. absurd (omega (arith, within))) }
 
 pub lock-requires-clause-can : goal.lock-requires-clause-can
 lock-requires-clause-can g c =
@@ -62,6 +62,7 @@ loop-name-preserved g c =
     record {
       reaches = one_more c.loop-name.invariant.reaches (asks c.args.session lock.0 lock.1 c.in_ok-lock.field-0 c.in_ok-lock.ensures.asks);
       leaves = leaves_asking g.N.Opened.opening c.args.machine.now c.loop-name.machine c.lock.new.self c.loop-name.invariant.leaves c.args.session lock.0 lock.1 c.in_ok-lock.field-0 c.in_ok-lock.ensures.asks;
+      same = ap (λ (k : Machine). k.db) by.goes ∙ c.loop-name.invariant.same;
       locked = subst (λ (locks : List Lock). HasLocked c.args.machine.now c.args.session locks c.lock.new.self) (sym more)
           (one_locked c.args.machine.now c.requires.kept c.args.session c.requires.next.0 c.args.locks.now c.requires.next.1 held lock.0 lock.1 c.loop-name.machine c.lock.new.self c.loop-name.invariant.locked by);
     }
@@ -84,3 +85,20 @@ returns-in-Die-clause-leaves g c =
 pub returns-in_err-lock-clause-leaves : goal.returns-in_err-lock-clause-leaves
 returns-in_err-lock-clause-leaves g c =
     subst (LeavesStore g.N.Opened.opening c.args.machine.now) (sym c.in_err-lock.ensures.err) c.loop-name.invariant.leaves
+
+pub returns-in-Wait-clause-same : goal.returns-in-Wait-clause-same
+returns-in-Wait-clause-same g c =
+    let lock : Lock = c.loop-name-item.result in
+    let by : Asks c.loop-name.machine c.args.session g.N.Opened.opening lock.0 lock.1 (Wait c.in-Wait.field-0) c.lock.new.self =
+    subst (λ (answer : LockAnswer). Asks c.loop-name.machine c.args.session g.N.Opened.opening lock.0 lock.1 answer c.lock.new.self) c.in-Wait.is c.in_ok-lock.ensures.asks in
+    ap (λ (k : Machine). k.db) by.goes ∙ c.loop-name.invariant.same
+
+pub returns-in-Die-clause-same : goal.returns-in-Die-clause-same
+returns-in-Die-clause-same g c =
+    let lock : Lock = c.loop-name-item.result in
+    let by : Asks c.loop-name.machine c.args.session g.N.Opened.opening lock.0 lock.1 (Die c.in-Die.field-0) c.lock.new.self =
+    subst (λ (answer : LockAnswer). Asks c.loop-name.machine c.args.session g.N.Opened.opening lock.0 lock.1 answer c.lock.new.self) c.in-Die.is c.in_ok-lock.ensures.asks in
+    ap (λ (k : Machine). k.db) by.goes ∙ c.loop-name.invariant.same
+
+pub returns-in_err-lock-clause-same : goal.returns-in_err-lock-clause-same
+returns-in_err-lock-clause-same g c = ap (λ (k : Machine). k.db) c.in_err-lock.ensures.err ∙ c.loop-name.invariant.same

@@ -8,5 +8,6 @@ abbrev pub invariant-loop-name : goal.invariant-loop-name
 invariant-loop-name g l = record {
   reaches : Reaches g.N.Opened.opening l.fn.machine l.machine;
   leaves : LeavesStore g.N.Opened.opening l.fn.machine l.machine;
+  same : l.machine.db ≡ l.fn.machine.db;
   locked : HasLocked l.fn.machine l.session (take l.name-index l.locks) l.machine;
 }
