@@ -96,9 +96,9 @@ impl<'r, 'g, N: Beginning<J>, J: Journal, R: Wait, G: Gate> Bench for Shared<'r,
             seats.note_session_ended(self.alloc, session);
             return Ok(Turn::Ended);
         }
-        let mut next = seats.take_next(session);
-        let step = self.take_turn(session, &mut next)?;
-        seats.keep_next(next);
+        let mut upcoming = seats.take_upcoming();
+        let step = self.take_turn(session, &mut upcoming)?;
+        seats.keep_upcoming(upcoming);
         match step {
             Step::Again => {
                 seats.note_nothing(self.alloc);

@@ -16,7 +16,7 @@ ghost use Rattle.bf_serve.specs.Sections.{AreNeededIfAny, AreNeededIfServed, IsR
 use crate::ahead::{Ahead, Anchors, Cursor};
 use crate::requests::{Position, Request};
 use crate::seats::Seat;
-use crate::sections::{Asked, Ran, ask_for, commit, move_for, present_catalog, run_statement};
+use crate::sections::{Ran, commit, move_for, present_catalog, run_statement};
 use bf_base::{Granule, Memory};
 use bf_image::{CatalogPass, MigrationPass, Registry, ValueIndexes};
 use bf_machine::{Journal, Lookups, Machine, Opened, Stand};
@@ -132,6 +132,13 @@ pub(crate) enum Served {
     Died,
     /// The machine does not stand there any more, or what it was made ready by has changed.
     Elsewhere,
+}
+
+impl Served {
+    /// Whether it has its reply.
+    pub(crate) fn has_reply(&self) -> bool {
+        matches!(self, Served::Replied | Served::Ended { .. })
+    }
 }
 
 /// What a session is to do next.
@@ -499,47 +506,7 @@ impl<N: Beginning<J>, J: Journal> Engine<N, J> {
         }
     }
 
-    /// Asks for a lock of a statement that was made ready.
-    ///
-    /// # Errors
-    /// Where memory runs out.
-    fn ask_for(
-        &mut self,
-        registry: &Registry,
-        request: &Request<N>,
-        index: usize,
-    ) -> Result<Asked, Memory>
-        requires registry { registry.now ≡ N.registry }
-        requires index { index < length request.now.locks }
-    {
-        let Engine {
-            machine,
-            catalog,
-            ..
-        } = self;
-        // Their contracts say that the script is the one that the type names, and has the session.
-        let _ = machine.script();
-        let _ = request.at();
-        ask_for(registry, machine, catalog, request, index)
-    }
-
-    /// Asks for the locks of a statement that was made ready, one after the other, up to the first that is not granted.
-    ///
-    /// # Errors
-    /// Where memory runs out.
-    fn ask_for_all(&mut self, registry: &Registry, request: &Request<N>) -> Result<Asked, Memory>
-        requires registry { registry.now ≡ N.registry }
-    {
-        for index in 0..request.locks().len() {
-            let asked = self.ask_for(registry, request, index)?;
-            if asked != Asked::Granted {
-                return Ok(asked);
-            }
-        }
-        Ok(Asked::Granted)
-    }
-
-    /// Replies to a statement that was made ready.
+    /// Asks for the locks of a statement that was made ready, and replies to it where its group holds them all.
     ///
     /// # Errors
     /// Where memory runs out, or 2 ^ 32 rows or more change.
@@ -594,19 +561,15 @@ impl<N: Beginning<J>, J: Journal> Engine<N, J> {
         requires registry { registry.now ≡ N.registry }
         ensures { IfOk result (AreNeededIfServed request.now) }
     {
-        match self.ask_for_all(registry, request)? {
-            Asked::Granted => {}
-            Asked::Waits => return Ok(Served::Waits(self.count)),
-            Asked::Died => {
-                self.happened();
-                return Ok(Served::Died);
-            }
-            Asked::Elsewhere => return Ok(Served::Elsewhere),
-        }
         match self.run_statement(registry, request)? {
             Ran::Replied => self.end_behind_reply(rt, registry, request.at().session()),
             Ran::Need(granules) => Ok(Served::Need(granules, self.count)),
             Ran::Uncovered => Ok(Served::Uncovered),
+            Ran::Waits => Ok(Served::Waits(self.count)),
+            Ran::Died => {
+                self.happened();
+                Ok(Served::Died)
+            }
             Ran::Elsewhere => Ok(Served::Elsewhere),
         }
     }

@@ -12,6 +12,7 @@ pub mod requests;
 pub mod seats;
 mod sections;
 pub mod shared;
+mod upcoming;
 
 pub use finishing::{all_granules, finish_migration};
 pub use phases::{Crew, serve_script};

@@ -16,7 +16,7 @@ use bf_machine::Opened;
 use bf_plan::prepare;
 use bf_sql::footprint;
 use bf_transpose::{Cover, can_need, candidates_of, cover_of};
-use bf_tree::{Bound, Script};
+use bf_tree::{Bound, Script, Statement};
 use std::alloc::Global;
 use std::marker::{Model, PhantomData};
 
@@ -145,6 +145,33 @@ impl<N: Opened> Position<N> {
     }
 }
 
+impl<N: Opened> Position<N> {
+    /// Where the session is to stand behind its reply, where both the statement and the next one are SELECTs, which leave the
+    /// catalog and the block as they are, and nothing of the last migration was left to move. `None` elsewhere.
+    pub(crate) fn behind_select(&self, script: &Script) -> Option<Position<N>>
+        requires { script.now ≡ N.script }
+    {
+        let session = &script.sessions.as_slice()[self.session as usize - 1];
+        let statements = session.statements.as_slice();
+        let next = self.place as usize;
+        if self.is_left || next >= statements.len() {
+            return None;
+        }
+        match (&statements[next - 1], &statements[next]) {
+            (Statement::Select { .. }, Statement::Select { .. }) => Some(Position {
+                session: self.session,
+                place: self.place + 1,
+                in_block: self.in_block,
+                catalog: self.catalog.copy(),
+                migration: copy_of_pass(&self.migration),
+                is_left: false,
+                opened: PhantomData,
+            }),
+            _ => None,
+        }
+    }
+}
+
 impl<N: Opened> Request<N> {
     /// Where its session stood.
     pub fn at(&self) -> &Position<N>
@@ -168,6 +195,18 @@ impl<N: Opened> Request<N> {
         self.locks.as_slice()
     }
 
+    /// Whether it locks no whole table: it names the rows that it reads or writes by their keys.
+    pub(crate) fn is_of_rows(&self) -> bool {
+        for (name, mode) in self.locks.as_slice() {
+            if let LockName::Whole(_) = name
+                && !matches!(mode, Mode::IS | Mode::IX)
+            {
+                return false;
+            }
+        }
+        true
+    }
+
     /// What it needs moved, whether it has moved or not. `None` where that has not been looked for: nothing of the migration
     /// was left to move, or its candidates are told.
     pub fn cover(&self) -> Option<&Cover>
@@ -182,6 +221,16 @@ impl<N: Opened> Request<N> {
         ensures { option_map (λ granules. granules.now) result ≡ self.now.candidates }
     {
         self.candidates.as_ref()
+    }
+}
+
+/// Another pass of a migration, if there is one.
+fn copy_of_pass(migration: &Option<MigrationPass>) -> Option<MigrationPass>
+    ensures { result ≡ migration.now }
+{
+    match migration {
+        Some(pass) => Some(pass.copy()),
+        None => None,
     }
 }
 

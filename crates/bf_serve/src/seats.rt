@@ -11,7 +11,7 @@ ghost use Rattle.bf_trackers.specs.Migrations.{IsGranuleOf};
 ghost use Rattle.bf_serve.specs.Seats.{AreOfSeat, Hold, HoldAtSeat, IsSeat, IsSeatOf};
 
 use crate::engine::{Beginning, MovedWork};
-use crate::requests::Position;
+use crate::upcoming::Upcoming;
 use bf_base::{Granule, Memory};
 use bf_bench::Taken;
 use bf_drive::Wip;
@@ -20,6 +20,7 @@ use bf_machine::{Journal, Opened};
 use bf_trackers::{TrackerSeats, Trackers};
 use std::alloc::Global;
 use std::marker::{Model, PhantomData};
+use std::mem;
 use std::snapshot::Snapshot;
 use std::sync::{Arc, Wait};
 
@@ -67,8 +68,8 @@ pub struct Seats<N: Opened> {
     given_back: u32,
     session_ended: Option<u32>,
     phase_ended: bool,
-    /// Where the session stood behind its last reply.
-    next: Option<Position<N>>,
+    /// What is known of the session's next statements behind its last reply.
+    upcoming: Upcoming<N>,
 }
 
 impl<N: Opened> Model for Seats<N> {
@@ -220,26 +221,22 @@ impl<N: Opened> Seats<N> {
             given_back: 0,
             session_ended: None,
             phase_ended: false,
-            next: None,
+            upcoming: Upcoming::nothing(),
         }
     }
 
-    /// Where a session stood behind its last reply, which is taken out. `None` where that isn't kept.
-    pub(crate) fn take_next(&mut self, session: u32) -> Option<Position<N>>
+    /// What is known of the session's next statements, which is taken out.
+    pub(crate) fn take_upcoming(&mut self) -> Upcoming<N>
         ensures { self.new ≡ self.old }
     {
-        let at = self.next.take()?;
-        if at.session() == session {
-            return Some(at);
-        }
-        None
+        mem::replace(&mut self.upcoming, Upcoming::nothing())
     }
 
-    /// Keeps where the session stands behind a reply.
-    pub(crate) fn keep_next(&mut self, next: Option<Position<N>>)
+    /// Keeps what is known of the session's next statements.
+    pub(crate) fn keep_upcoming(&mut self, upcoming: Upcoming<N>)
         ensures { self.new ≡ self.old }
     {
-        self.next = next;
+        self.upcoming = upcoming;
     }
 
     /// The session that the actor serves. `None` for a worker.

@@ -6,11 +6,13 @@ ghost use Rattle.boxcar.specs.Table.{Shows};
 ghost use Rattle.bf_machine.specs.interleaving.Calls.{IsPlace};
 ghost use Rattle.bf_bench.specs.Notes.{fresh};
 ghost use Rattle.bf_serve.specs.Seats.{Hold, IsFreshSeatOf};
+ghost use Rattle.bf_serve.specs.Sections.{AreNeededIfServed};
 ghost use Rattle.bf_serve.specs.Steps.{IsStep};
 
 use crate::engine::{Beginning, Due, Engine, Phase, Served};
 use crate::requests::{Position, Request};
 use crate::seats::{Seat, Seats};
+use crate::upcoming::Upcoming;
 use bf_base::{Granule, Memory};
 use bf_bench::{Gate, News};
 use bf_image::{MigrationPass, Registry};
@@ -18,6 +20,9 @@ use bf_machine::{Journal, Lookups};
 use bf_tree::Script;
 use std::alloc::Global;
 use std::sync::{Arc, Condvar, Mutex, MutexGuard, Wait};
+
+/// How many statements of a session have their replies in one section, at most.
+const MOST_TOGETHER: usize = 8;
 
 /// A machine beside its journal under a lock, and what the threads of a run read without it.
 pub struct Shared<'r, 'g, N: Beginning<J>, J: Journal, R: Wait, G: Gate> {
@@ -138,18 +143,23 @@ impl<'r, 'g, N: Beginning<J>, J: Journal, R: Wait, G: Gate> Shared<'r, 'g, N, J,
     }
 
     /// One turn of a session: its open group ends, or its next statement is made ready and served until it has its reply, waits
-    /// or dies, or needs granules that have not moved. It begins with the position that its last turn left, if it left
-    /// one, and leaves the next one behind a reply.
-    pub(crate) fn take_turn(
-        &self,
-        session: u32,
-        next: &mut Option<Position<N>>,
-    ) -> Result<Step, Memory>
+    /// or dies, or needs granules that have not moved. SELECTs of rows by their keys that stand behind each other are made ready
+    /// together and have their replies in one section; the turns behind that tell of them one by one. A turn leaves what is
+    /// known of the next ones.
+    pub(crate) fn take_turn(&self, session: u32, upcoming: &mut Upcoming<N>) -> Result<Step, Memory>
         requires { IsPlace N.script session }
         ensures { IfOk result (IsStep N.registry) }
     {
-        if let Some(at) = next.take() {
-            return self.drive(at, next);
+        if let Some(statement) = upcoming.take_replied() {
+            if upcoming.end_groups() {
+                self.gate.tell(News::Ended);
+            }
+            return Ok(Step::Replied(statement));
+        }
+        if let Some(at) = upcoming.take_position()
+            && at.session() == session
+        {
+            return self.drive(at, upcoming);
         }
         let due = self.engine().next(self.rt, self.registry, session)?;
         match due {
@@ -169,38 +179,100 @@ impl<'r, 'g, N: Beginning<J>, J: Journal, R: Wait, G: Gate> Shared<'r, 'g, N, J,
                 self.wake_all();
                 Ok(Step::Ended)
             }
-            Due::Statement(at) => self.drive(at, next),
+            Due::Statement(at) => self.drive(at, upcoming),
         }
     }
 
-    /// Makes a statement ready, and serves it. Where its keys tell its candidates, its cover is made only once one of them is
-    /// left to move.
-    fn drive(&self, at: Position<N>, next: &mut Option<Position<N>>) -> Result<Step, Memory>
+    /// Makes a statement ready with those that may have their replies behind it, and serves them. Where its keys tell its
+    /// candidates, its cover is made only once one of them is left to move.
+    fn drive(&self, at: Position<N>, upcoming: &mut Upcoming<N>) -> Result<Step, Memory>
         ensures { IfOk result (IsStep N.registry) }
     {
         let request = self.make_ready(at)?;
-        if let Some(step) = self.serve(&request, next)? {
+        let later = self.make_ready_behind(&request)?;
+        if let Some(step) = self.serve(&request, later.as_slice(), upcoming)? {
             return Ok(step);
         }
         let request = self.cover(request)?;
-        match self.serve(&request, next)? {
+        match self.serve(&request, later.as_slice(), upcoming)? {
             Some(step) => Ok(step),
             None => Ok(Step::Again),
         }
     }
 
-    /// Serves a statement that was made ready, and tells how the turn ends; none where its cover is to be made first.
+    /// The statements made ready that may have their replies in the section of one: while it and they are SELECTs of rows by
+    /// their keys, and at most so many that others get the lock soon.
+    fn make_ready_behind(&self, request: &Request<N>) -> Result<Vec<Request<N>>, Memory> {
+        let mut later = Vec::new(self.alloc);
+        let mut next = self.position_behind(request);
+        for _ in 1..MOST_TOGETHER {
+            let Some(at) = next else {
+                return Ok(later);
+            };
+            let request = self.make_ready(at)?;
+            next = self.position_behind(&request);
+            later.push(request)?;
+        }
+        Ok(later)
+    }
+
+    /// Where a session is to stand behind a statement that was made ready, where that and the next one are SELECTs and it reads
+    /// rows by their keys.
+    fn position_behind(&self, request: &Request<N>) -> Option<Position<N>> {
+        if !request.is_of_rows() {
+            return None;
+        }
+        request.at().behind_select(&self.script)
+    }
+
+    /// Serves a statement that was made ready, and behind its reply later ones of its session, in one section. Tells how the
+    /// turn ends; `None` where its cover is to be made first.
     fn serve(
         &self,
         request: &Request<N>,
-        next: &mut Option<Position<N>>,
+        later: &[Request<N>],
+        upcoming: &mut Upcoming<N>,
     ) -> Result<Option<Step>, Memory>
         ensures { IfOk result (λ step. IfSome step (IsStep N.registry)) }
     {
-        let (served, position) = self.engine().serve(self.rt, self.registry, request)?;
-        *next = position;
+        let mut engine = self.engine();
+        let (served, position) = engine.serve(self.rt, self.registry, request)?;
+        upcoming.begin(request.at().place(), position);
+        if served.has_reply() {
+            self.serve_later(&mut engine, later, upcoming)?;
+        }
+        drop(engine);
+        self.step_of(served, request)
+    }
+
+    /// Serves statements that were made ready behind one that has its reply, up to the first that has none.
+    fn serve_later(
+        &self,
+        engine: &mut Engine<N, J>,
+        later: &[Request<N>],
+        upcoming: &mut Upcoming<N>,
+    ) -> Result<(), Memory> {
+        for request in later {
+            let (served, position) = engine.serve(self.rt, self.registry, request)?;
+            if !served.has_reply() {
+                return Ok(());
+            }
+            upcoming.add(matches!(served, Served::Ended { .. }), position);
+        }
+        Ok(())
+    }
+
+    /// How a turn ends in which a statement was served so, once those who wait are told; `None` where its cover is to be made
+    /// first.
+    fn step_of(&self, served: Served, request: &Request<N>) -> Result<Option<Step>, Memory>
+        requires { AreNeededIfServed request.now served }
+        ensures { IfOk result (λ step. IfSome step (IsStep N.registry)) }
+    {
         match (served, request.at().migration()) {
-            (Served::Replied, _) => Ok(Some(Step::Replied(request.at().place()))),
+            (Served::Replied, _) => {
+                self.wake();
+                Ok(Some(Step::Replied(request.at().place())))
+            }
             (Served::Ended { changes_catalog }, _) => {
                 self.tell_end(changes_catalog);
                 Ok(Some(Step::Replied(request.at().place())))

@@ -1,5 +1,5 @@
 -- The locks before this one are held, and nothing else has changed.
-use Rattle.std.proofs.Common.{take}
+use Rattle.std.proofs.Common.{◌≡◌, take}
 use Rattle.bf_machine.specs.interleaving.Events.{Reaches}
 use Rattle.bf_machine.specs.interleaving.Serving.{HasLocked, LeavesStore}
 use Rattle.bf_machine.proofs.serving.lock_all.Given as goal

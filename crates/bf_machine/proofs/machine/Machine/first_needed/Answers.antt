@@ -1,9 +1,7 @@
 -- Where nothing is left of enough, what the statement needs has moved: it is of the migration that the store has.
-use Rattle.std.proofs.Common.{◌≡◌, ℕ, true, ◌==◌, List, [], ◌∷◌, length, Bor, Option, Some, None, refl, sym, ap, subst, ◌∙◌, arith, option_map}
+use Rattle.std.proofs.Common.{◌≡◌, [], Bor, Option, Some, None, refl, sym, ap, subst, ◌∙◌, arith, option_map}
 use Rattle.std.specs.Option.{option_copied}
-use Rattle.std.proofs.lemmas.Bool.Decides.{nat_tests}
 use Rattle.boxcar.specs.Table.{Where}
-use Rattle.bf_base.specs.declared.granule.Granule.{Granule}
 use Rattle.bf_sql.specs.migrations.Need.{needed_for}
 use Rattle.bf_image.specs.declared.migration.Migration.{Migration as Kept}
 use Rattle.bf_store.specs.Calls.{cover_of}
