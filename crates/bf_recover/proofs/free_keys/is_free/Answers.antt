@@ -1,8 +1,14 @@
 use Rattle.std.proofs.Common.{sym, ap, ◌∙◌}
+use Rattle.std.proofs.lemmas.Option.{same_Some}
 use Rattle.bf_sql.specs.Database.{table_at}
+use Rattle.bf_image.specs.Migrations.{value_indexes}
 use Rattle.bf_store.specs.States.{to_move}
 use Rattle.bf_recover.proofs.Freeing.{free_if_all_moved, free_if_moved, free_if_none_pending, free_if_unowned}
 use Rattle.bf_recover.proofs.free_keys.is_free.Goals as goal
+
+pub owner-requires-clause-indexed : goal.owner-requires-clause-indexed
+owner-requires-clause-indexed c =
+    same_Some c.in-Some-indexes.found (value_indexes c.in-Some.pass.value) (sym c.in-Some-indexes.is ∙ c.in_ok-look_up.ensures.ok) ∙ ap value_indexes (sym c.migration-last.ensures.read)
 
 pub returns-in-Some-2-clause-free : goal.returns-in-Some-2-clause-free
 returns-in-Some-2-clause-free c =
