@@ -1,31 +1,24 @@
 -- What comes of a log that is made for the demonstration, and of the run over it.
-use Rattle.std.proofs.Common.{◌≡◌, ◌≢◌, ◌⊎◌, inl, inr, ℕ, suc, zero, ◌+◌, ◌-◌, ◌*◌, ◌<◌, ◌≤◌, Bool, true, false, List, [], ◌∷◌, ◌++◌, map, flat_map, length, Option, None, Some, Result, Ok, Err, IfOk, codes, refl, sym, ap, subst, ◌∙◌, arith, rules}
+use Rattle.std.proofs.Common.{◌≡◌, ◌≢◌, inl, inr, ℕ, ◌<◌, List, [], ◌∷◌, ◌++◌, length, Option, None, Some, Result, Ok, Err, IfOk, refl, sym, ap, subst, ◌∙◌, arith}
 use Rattle.std.proofs.lemmas.Bool.{false≢true}
 use Rattle.std.specs.Prelude.{IsSome}
 use Rattle.std.specs.Global.{Vec}
-use Rattle.std.specs.List.{AllByRecursion, list_all, range_with_len}
 use Rattle.bf_disk.specs.Images.{Only}
 use Rattle.bf_disk.specs.Shelves.{ByPath}
-use Rattle.bf_io.specs.Causes.{Rose, last_count}
 use Rattle.bf_io.specs.Whole.{IfTold}
 use Rattle.bf_journal.specs.Reopening.{After}
-use Rattle.bf_lex.specs.Words.{keyword_of}
 use Rattle.bf_log.specs.Format.{IsChain, empty_log, entry, magic, open_gate}
-use Rattle.bf_machine.specs.interleaving.Kept.{IsWithinLimits}
 use Rattle.bf_recover.specs.Legal.{first_state}
 use Rattle.bf_recover.specs.Steps.{StepsTo}
 use Rattle.bf_sql.specs.Database.{Database, empty_database}
 use Rattle.bf_sql.specs.migrations.Lazy.{LazyState, view_of}
-use Rattle.bf_tree.specs.Limits.{IsNarrowIfMigrate, is_narrow_script, is_narrow_statement}
 use Rattle.bf_tree.specs.declared.script.Script.{Script}
-use Rattle.bf_tree.specs.declared.script.Session.{Session}
-use Rattle.bf_demo.specs.Script.{credit, demonstration, opening, openings}
+use Rattle.bf_demo.specs.Script.{demonstration}
 use Rattle.bf_demo.specs.Shown.{last_lines, shown_of}
 use Rattle.bf_run.specs.Creating.{CountsNone, CountsOne, IsEmptyFile, IsNewLog, IsReadAlone, KeepsBytes, Makes, Shelving, Spares, TellsFiles, WhereHeld}
 use Rattle.bf_run.specs.Demonstrating.{AfterMaking, demo_options}
 use Rattle.bf_run.specs.Outcome.{ComesOfDemonstration, ComesOfFile, ComesOfLog, HoldsAsked, HoldsOfLog, IsRunTold, IsTextOf, fault_of_disk}
 use Rattle.bf_run.specs.Running.{IsLogOf, KeepsOthers, Opens, OpensTo}
-use Rattle.bf_run.specs.Sayable.{IsSayable, IsSayableScript}
 use Rattle.bf_run.specs.Top.{IsShownRun, IsTextOfRun}
 use Rattle.bf_run.specs.declared.status.Status.{Status}
 use Rattle.bf_run.specs.declared.status.Status.TheVariants.{Done, Usage, Script as ScriptError, ReadFault, WriteFault, DiskFault, NotALog, NotEmpty, Memory}
@@ -35,57 +28,6 @@ use Rattle.bf_words.specs.Words.{Options, creating, demonstrating, running}
 pub of_three : {X E : Type 0} (r : Result X E) (P Q R T : X → Type 0) → ((x : X) → P x → Q x → R x → T x) → IfOk r P → IfOk r Q → IfOk r R → IfOk r T
 of_three (Ok x) P Q R T all p q s = all x p q s
 of_three (Err e) P Q R T all p q s = tt
-
--- THE SCRIPT is within the limits of the language, and a log can keep what it makes
-narrow_openings : (m b : ℕ) → list_all is_narrow_statement (map opening (range_with_len b m)) ≡ true
-narrow_openings zero b = refl
-narrow_openings (suc m) b = narrow_openings m (b + 1)
-
-narrow_credits : (s base m b : ℕ) → list_all is_narrow_statement (flat_map (λ j. credit s (base + j)) (range_with_len b m)) ≡ true
-narrow_credits s base zero b = refl
-narrow_credits s base (suc m) b = narrow_credits s base m (b + 1)
-
-narrow : (n : ℕ) → is_narrow_script (demonstration n) ≡ true
-narrow n =
-    rw (narrow_openings n 1, narrow_credits 1 (4 * n * 0) n 1, narrow_credits 2 (4 * n * 1) n 1, narrow_credits 3 (4 * n * 2) n 1, narrow_credits 4 (4 * n * 3) n 1) refl
-
-few_openings : (m b : ℕ) → AllByRecursion IsNarrowIfMigrate (map opening (range_with_len b m))
-few_openings zero b = tt
-few_openings (suc m) b = (tt, few_openings m (b + 1))
-
-few_credits : (s base m b : ℕ) → AllByRecursion IsNarrowIfMigrate (flat_map (λ j. credit s (base + j)) (range_with_len b m))
-few_credits s base zero b = tt
-few_credits s base (suc m) b = (tt, (tt, (tt, few_credits s base m (b + 1))))
-
-pub is_within : (n : ℕ) → IsWithinLimits (demonstration n)
-is_within n = record {
-  narrow = narrow n;
-  migrates = (
-    (tt, few_openings n 1),
-    (
-      (record { targets = omega arith; arms = omega arith; items = refl }, tt),
-      (few_credits 1 (4 * n * 0) n 1, (few_credits 2 (4 * n * 1) n 1, (few_credits 3 (4 * n * 2) n 1, (few_credits 4 (4 * n * 3) n 1, ((tt, (tt, tt)), tt))))),
-    ),
-  );
-}
-
-said_openings : (m b : ℕ) → AllByRecursion IsSayable (map opening (range_with_len b m))
-said_openings zero b = tt
-said_openings (suc m) b = (tt, said_openings m (b + 1))
-
-said_credits : (s base m b : ℕ) → AllByRecursion IsSayable (flat_map (λ j. credit s (base + j)) (range_with_len b m))
-said_credits s base zero b = tt
-said_credits s base (suc m) b = (tt, (tt, (tt, said_credits s base m (b + 1))))
-
-pub is_sayable : (n : ℕ) → IsSayableScript (demonstration n)
-unfolding keyword_of
-is_sayable n = (
-  (refl, said_openings n 1),
-  (
-    ((refl, search rules), tt),
-    (said_credits 1 (4 * n * 0) n 1, (said_credits 2 (4 * n * 1) n 1, (said_credits 3 (4 * n * 2) n 1, (said_credits 4 (4 * n * 3) n 1, ((tt, (tt, tt)), tt))))),
-  ),
-)
 
 -- A SHELF before a log was made, when it was, and behind the run
 module _ {V : Type 0} (shelf : Shelving V) (path : List ℕ) (made : Option (ByPath V)) (faults : ℕ) where
@@ -214,8 +156,8 @@ module _ {V : Type 0} (shelf : Shelving V) (path : List ℕ) (count : ℕ) where
 no_payloads : (payloads : List (List ℕ)) (chain : List ℕ) → empty_log ≡ magic ++ chain → IsChain payloads chain → payloads ≡ []
 no_payloads [] chain e is = refl
 no_payloads (payload ∷ payloads) chain e is =
-    let zero : chain ≡ 0 ∷ [] = cc in
-    let begins : 0 ∷ [] ≡ entry payload ++ is.0 = sym zero ∙ is.2 in
+    let closed : chain ≡ 0 ∷ [] = cc in
+    let begins : 0 ∷ [] ≡ entry payload ++ is.0 = sym closed ∙ is.2 in
     let gate : 0 ≡ open_gate = cc in
     absurd (omega (arith, gate))
 

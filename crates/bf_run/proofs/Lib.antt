@@ -15,6 +15,7 @@ pub mod Recorded
 pub mod Replied
 pub mod Running
 pub mod Sayable
+pub mod Scripted
 pub mod Serving
 pub mod Settling
 pub mod Sizing

@@ -26,5 +26,5 @@ returns g c =
     let m : Machine = c.args.machine.now in
     IfOk-weaker c.cover_of-2.result _ _
     (λ cover covers. subst (λ (o : Option Kept). IsEnough m o c.args.bound.now cover) (sym (ap (option_map (λ p. p.now.value)) c.in-Some.is))
-        (exact_is_enough m.lazy.last _ c.args.bound.now cover covers ∙ ap (λ (l : Kept). to_move m.lazy.last (needed_in (Some l) c.args.bound.now.action)) c.migration-last.ensures.read))
+    (exact_is_enough m.lazy.last _ c.args.bound.now cover covers ∙ ap (λ (l : Kept). to_move m.lazy.last (needed_in (Some l) c.args.bound.now.action)) c.migration-last.ensures.read))
     c.cover_of-2.ensures

@@ -5,7 +5,8 @@ use Rattle.bf_run.specs.Creating.{shelf_of}
 use Rattle.bf_run.specs.Outcome.{ComesOfFile}
 use Rattle.bf_run.specs.Sayable.{IsSayableScript}
 use Rattle.bf_run.specs.declared.status.Status.{Status}
-use Rattle.bf_run.proofs.Demonstrated.{is_sayable, is_within, refusal_comes, refusal_is_told, run_comes, run_is_told, shown_by_size, spared}
+use Rattle.bf_run.proofs.Demonstrated.{refusal_comes, refusal_is_told, run_comes, run_is_told, shown_by_size, spared}
+use Rattle.bf_run.proofs.Scripted.{is_sayable, is_within}
 use Rattle.bf_run.proofs.demonstrating.demonstrate.Goals as goal
 
 pub show_run-requires-clause-limits : goal.show_run-requires-clause-limits
