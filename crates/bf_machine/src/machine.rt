@@ -7,6 +7,7 @@ mod statements;
 mod turns;
 
 ghost use Rattle.std.specs.Prelude.{◌≡◌, ◌↔◌, IfOk, None, length, true};
+ghost use Rattle.std.specs.Arc.{arc_value};
 ghost use Rattle.std.specs.Option.{option_map};
 ghost use Rattle.bf_tree.specs.Limits.{HasNarrowTables};
 ghost use Rattle.bf_sql.specs.Bound.{catalog_of};
@@ -27,6 +28,7 @@ use bf_store::Store;
 use bf_tree::{Catalog, Entry, History, Reply, Script, Transcripts};
 use std::alloc::Global;
 use std::marker::{Model, PhantomData};
+use std::sync::Arc;
 
 /// Sessions that take turns over a store, under locks. Contracts see the script, how often a group may
 /// begin again, the database that sessions see, what the store keeps and the pass of its last migration,
@@ -35,7 +37,7 @@ use std::marker::{Model, PhantomData};
 #[derive(Drop)]
 pub struct Machine<N: Opened> {
     alloc: Global,
-    script: Script,
+    script: Arc<Script, Global>,
     retries: u16,
     store: Store,
     locks: LockTable,
@@ -53,10 +55,9 @@ pub struct Machine<N: Opened> {
     opened: PhantomData<N>,
 }
 
-/// What a machine leaves: its script, the store, and what its sessions were told.
+/// What a machine leaves: the store, and what its sessions were told.
 #[derive(Drop)]
 pub struct Parts {
-    pub script: Script,
     pub store: Store,
     pub transcripts: Transcripts,
     pub history: History,
@@ -77,12 +78,13 @@ impl<N: Opened> Model for Machine<N> {
     ghost coded = { Prim.hlevel (codes, exprs.the_row.coded, conds.the_row.coded, plans.the_row.coded, tables.the_row.coded, where_coded migrations.the_row.coded) };
 
     ghost use Rattle.std.specs.Prelude.{length};
+    ghost use Rattle.std.specs.Arc.{arc_value};
     ghost use Rattle.bf_machine.specs.interleaving.Seen.{IsLeastLeft, IsSound, seen};
 
-    ghost view = { λ m. seen N.logged m.script m.retries m.store m.locks m.began.items m.sessions.items m.history.items };
+    ghost view = { λ m. seen N.logged (arc_value m.script) m.retries m.store m.locks m.began.items m.sessions.items m.history.items };
 
-    ghost invariant = { λ m. IsSound N.opening N.registry N.script N.logged m.script m.retries m.store m.locks m.began.items m.sessions.items m.history m.commits m.transcripts
-        × IsLeastLeft m.script.sessions m.sessions.items (length m.sessions.items) m.least_left };
+    ghost invariant = { λ m. IsSound N.opening N.registry N.script N.logged (arc_value m.script) m.retries m.store m.locks m.began.items m.sessions.items m.history m.commits m.transcripts
+        × IsLeastLeft (arc_value m.script).sessions m.sessions.items (length m.sessions.items) m.least_left };
 }
 
 impl<N: Opened> Machine<N> {
@@ -95,22 +97,23 @@ impl<N: Opened> Machine<N> {
     pub fn new(
         alloc: Global,
         store: Store,
-        script: Script,
+        script: Arc<Script, Global>,
         retries: u16,
     ) -> Result<Machine<N>, Memory>
         requires opening { view_of store.lazy ≡ N.opening }
         requires registry { IsOf N.registry store.migration }
-        requires script { script ≡ N.script }
-        requires limits { IsWithinLimits script }
-        ensures { IfOk result (λ machine. machine ≡ fresh N.logged store script retries) }
+        requires script { arc_value script ≡ N.script }
+        requires limits { IsWithinLimits (arc_value script) }
+        ensures { IfOk result (λ machine. machine ≡ fresh N.logged store (arc_value script) retries) }
     {
         // Their contracts say that the store is a lazy state, and that the pass reads its migration.
         let _ = store.live();
         let _ = store.migration();
-        next_number(script.sessions.len())?;
-        let sessions = sessions_so_far(alloc, script.sessions.as_slice())?;
+        let text: &Script = &script;
+        next_number(text.sessions.len())?;
+        let sessions = sessions_so_far(alloc, text.sessions.as_slice())?;
         let transcripts = Vec::with_capacity(alloc, sessions.len())?;
-        let least_left = least_left(script.sessions.as_slice(), &sessions);
+        let least_left = least_left(text.sessions.as_slice(), &sessions);
         Ok(Machine {
             alloc,
             script,
@@ -243,7 +246,6 @@ impl<N: Opened> Machine<N> {
 
     /// What the machine leaves. Transcripts and history are legal, but for the groups that are open.
     pub fn into_parts(self) -> Parts
-        ensures script { result.script ≡ self.script }
         ensures store { result.store ≡ record { lazy = self.lazy; migration = self.pass } }
         ensures database { view_of result.store.lazy ≡ self.db }
         ensures transcripts { result.transcripts.sessions ≡ transcripts_of self }
@@ -252,7 +254,6 @@ impl<N: Opened> Machine<N> {
     {
         let sessions = all_replies(self.sessions, self.transcripts);
         Parts {
-            script: self.script,
             store: self.store,
             transcripts: Transcripts {
                 sessions: Sequence::of(sessions),

@@ -36,7 +36,7 @@ use bf_words::{Words, WordsError, read_words};
 use std::alloc::Global;
 use std::marker::Brand;
 use std::mem::forget;
-use std::sync::Wait;
+use std::sync::{Arc, Wait};
 use std::thread::Threads;
 
 /// The status of words that ask for nothing, and what is written.
@@ -76,6 +76,7 @@ fn serve<N: Opened, R: Wait>(
     ensures { IfOk result (λ text. Tells (IsRunInOrder script) text.items) }
 {
     let store = Store::of(alloc, LiveTables::new(alloc));
+    let script = Arc::new(alloc, script)?;
     let mut machine: Machine<N> = Machine::new(alloc, store, script, NO_RETRIES)?;
     in_order(alloc, rt, registry, &mut Unkept, &mut machine, &[])?;
     // Their contracts say that the script is the one that was given, and that it ran in order.

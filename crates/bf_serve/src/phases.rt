@@ -1,6 +1,7 @@
 //! The phases of a script: the sessions of each run at the same time.
 
 ghost use Rattle.std.specs.Prelude.{◌≡◌, ◌<◌, ◌≤◌, ℕ, IfOk, OnOk, length, true};
+ghost use Rattle.std.specs.Arc.{arc_value};
 ghost use Rattle.bf_sql.specs.migrations.Lazy.{view_of};
 ghost use Rattle.bf_store.specs.Stores.{IsOf};
 ghost use Rattle.bf_machine.specs.interleaving.Calls.{HasSessionEnded, IsPlace};
@@ -22,7 +23,7 @@ use bf_store::Store;
 use bf_tree::{Script, Session};
 use std::alloc::Global;
 use std::marker::Brand;
-use std::sync::{Condvar, Mutex, Wait};
+use std::sync::{Arc, Condvar, Mutex, Wait};
 use std::thread::{Threads, map_indices};
 
 /// What a script is served with: threads, a gate, and how many workers there are and how often a group begins again after
@@ -163,12 +164,12 @@ fn serve_machine<
 >(
     crew: Crew<'_, R, G>,
     registry: &Registry,
-    script: Script,
+    script: Arc<Script, Global>,
     machine: Machine<N>,
     journal: J,
 ) -> (Machine<N>, J, Result<(), Memory>)
     requires registry { registry.now ≡ N.registry }
-    requires script { script ≡ N.script }
+    requires script { arc_value script ≡ N.script }
     requires begins { N.begins machine journal }
     requires logged { J.ends ≡ N.logged }
     requires said { AreSaid J.Says N.script }
@@ -242,15 +243,18 @@ fn serve_over<
         × OnOk result.1 (crew.entry.finish ≡ true → HasFinished J.Answers next result.0) }
     ensures migration { IfOk result.1 (λ parts. IsOf N.registry parts.store.migration) }
 {
-    let Ok(copy) = script.copy(crew.alloc) else {
+    let Ok(text) = Arc::new(crew.alloc, script) else {
         return (journal, Err(Memory));
     };
-    let made: Result<Machine<N>, Memory> = Machine::new(crew.alloc, store, script, crew.retries);
+    let Ok(own) = Arc::try_clone(&text) else {
+        return (journal, Err(Memory));
+    };
+    let made: Result<Machine<N>, Memory> = Machine::new(crew.alloc, store, own, crew.retries);
     let machine = match made {
         Ok(machine) => machine,
         Err(memory) => return (journal, Err(memory)),
     };
-    let (machine, journal, served) = serve_machine(crew, registry, copy, machine, journal);
+    let (machine, journal, served) = serve_machine(crew, registry, text, machine, journal);
     // Its contract says that the pass of the last migration is the registry's.
     let _ = machine.migration();
     match served {

@@ -37,9 +37,9 @@ pub struct Shared<'r, 'g, N: Beginning<J>, J: Journal, R: Wait, G: Gate> {
     /// Whoever makes the old rows of a migration by their values has it, so that they are made once.
     pub(crate) making: Mutex<()>,
     pub(crate) registry: &'g Registry,
-    pub(crate) script: Script,
+    pub(crate) script: Arc<Script, Global>,
     ghost named: { registry.now ≡ N.registry },
-    ghost text: { script ≡ N.script },
+    ghost text: { arc_value script ≡ N.script },
 }
 
 /// How a turn of a session went.

@@ -14,7 +14,7 @@ use bf_store::Store;
 use bf_tree::{History, Script, Sweep, Transcripts};
 use std::alloc::Global;
 use std::marker::Brand;
-use std::sync::Wait;
+use std::sync::{Arc, Wait};
 
 /// How sessions take turns.
 #[derive(Clone, Copy)]
@@ -45,7 +45,7 @@ fn serve<N: Opened, R: Wait>(
     requires limits { IsWithinLimits script }
 {
     let store = Store::of(alloc, LiveTables::new(alloc));
-    let mut machine: Machine<N> = Machine::new(alloc, store, script, order.retries)?;
+    let mut machine: Machine<N> = Machine::new(alloc, store, Arc::new(alloc, script)?, order.retries)?;
     let mut journal = Refusing::of(order.refused);
     in_order(alloc, rt, registry, &mut journal, &mut machine, order.turns)?;
     let sweep = machine.sweep();

@@ -2,6 +2,7 @@
 use Rattle.std.proofs.Common.{◌≡◌, ℕ, ◌+◌, ◌-◌, ◌^◌, ◌<◌, ◌≤◌, Bool, List, [], ◌∷◌, ◌++◌, length, map, take, replicate, Option, Some, None, refl, sym, ap, ap₂, subst, ◌∙◌, arith, option_map, vec_capacity}
 use Rattle.std.specs.Prelude.{is_some, slice_index_or, slice_set}
 use Rattle.std.proofs.lemmas.List.{length-map, length-set}
+use Rattle.std.specs.Arc.{arc_value}
 use Rattle.bf_locks.specs.Locks.{Locks, without_owner}
 use Rattle.bf_tree.specs.declared.reply.Reply.{Reply}
 use Rattle.bf_tree.specs.declared.script.Script.{Script}
@@ -28,10 +29,10 @@ all_alike {Y = Y} y (x ∷ xs) = ap (λ (ys : List Y). y ∷ ys) (all_alike y xs
 -- the machine with other locks, other groups that have begun and other sessions
 module _ {N : Type 0} (logged : Bool) (i : Inside N) (locks : Locks) (began : List BeganGroup) (sessions : List SessionSoFar) where
   abbrev pub SoundWith : Database → Registry → Script → Type 0
-  SoundWith opening registry given = IsSound opening registry given logged i.script i.retries i.store locks began sessions i.history i.commits i.transcripts
+  SoundWith opening registry given = IsSound opening registry given logged (arc_value i.script) i.retries i.store locks began sessions i.history i.commits i.transcripts
 
   abbrev pub seen_with : Machine
-  seen_with = seen logged i.script i.retries i.store locks began sessions i.history.items
+  seen_with = seen logged (arc_value i.script) i.retries i.store locks began sessions i.history.items
 
 -- THE OPEN GROUP g of a session, of which the code has x
 module _ {N : Type 0} {opening : Database} {registry : Registry} {given : Script} {logged : Bool} (i : Inside N) (sound : SoundWith logged i i.locks i.began.items i.sessions.items opening registry given) (before : Machine)
@@ -49,28 +50,28 @@ module _ {N : Type 0} {opening : Database} {registry : Registry} {given : Script
 
   pub high : s ≤ length i.sessions.items
   high =
-      let here : IsPlace i.script s = subst (λ (m : Machine). IsPlace m.script s) (sym view) place in
+      let here : IsPlace (arc_value i.script) s = subst (λ (m : Machine). IsPlace m.script s) (sym view) place in
       omega (arith, here.1, sound.kept.shaped.opens, length-map i.sessions.items open_seen)
 
   pub there : open_at m s ≡ Some o
   there =
-      open_there logged i.script i.retries i.store i.locks i.began.items i.sessions.items i.history.items x s low high at
+      open_there logged (arc_value i.script) i.retries i.store i.locks i.began.items i.sessions.items i.history.items x s low high at
       ∙ ap (option_map (group_seen x.replies.items)) is
 
   told_is : told_at m s ≡ take (g.first - 1) x.replies.items
   told_is =
-      told_there logged i.script i.retries i.store i.locks i.began.items i.sessions.items i.history.items x s low high at
+      told_there logged (arc_value i.script) i.retries i.store i.locks i.began.items i.sessions.items i.history.items x s low high at
       ∙ ap (told_before x.replies.items) is
 
   own : IsOpenGroup opening m s o
   own = sound.kept.open_groups_replay.each s o there
 
-  pub bounds : (1 ≤ g.first) × (g.first ≤ g.last) × (g.last ≤ length (session_at i.script s).statements)
-  bounds = (are_texts i.script).bounds s o.group own.whole
+  pub bounds : (1 ≤ g.first) × (g.first ≤ g.last) × (g.last ≤ length (session_at (arc_value i.script) s).statements)
+  bounds = (are_texts (arc_value i.script)).bounds s o.group own.whole
 
   length-text : length (text_of m s o) ≡ g.last + 1 - g.first
   length-text =
-      let whole = length-part g.first g.last (session_at i.script s).statements in
+      let whole = length-part g.first g.last (session_at (arc_value i.script) s).statements in
       omega (arith, whole, bounds.0, bounds.1, bounds.2)
 
   -- there is room for a reply to each of its statements
@@ -78,7 +79,7 @@ module _ {N : Type 0} {opening : Database} {registry : Registry} {given : Script
   room_for_text =
       let next : s - 1 + 1 ≡ s = omega (arith, low) in
       let room = (sound.roomy (s - 1) x (omega (arith, low, high)) at).room in
-      let here : length (session_at i.script s).statements ≤ vec_capacity x.replies = rw next at room in
+      let here : length (session_at (arc_value i.script) s).statements ≤ vec_capacity x.replies = rw next at room in
       omega (arith, here, bounds.0, bounds.1, bounds.2)
 
   -- they have numbers of 32 bits
@@ -86,7 +87,7 @@ module _ {N : Type 0} {opening : Database} {registry : Registry} {given : Script
   last_fits =
       let next : s - 1 + 1 ≡ s = omega (arith, low) in
       let numbers = (sound.roomy (s - 1) x (omega (arith, low, high)) at).numbers in
-      let here : length (session_at i.script s).statements < 2 ^ 32 = rw next at numbers in
+      let here : length (session_at (arc_value i.script) s).statements < 2 ^ 32 = rw next at numbers in
       omega (arith, here, bounds.2)
 
   -- where each of them is told one reply, so many are told it
@@ -128,7 +129,7 @@ module _ {N : Type 0} {opening : Database} {registry : Registry} {given : Script
           kept = kept;
           counted = sound.counted;
           sessions_numbered = sound.sessions_numbered;
-          roomy = roomy_then i.script (map began_seen began) i.sessions.items (s - 1) x y below at
+          roomy = roomy_then (arc_value i.script) (map began_seen began) i.sessions.items (s - 1) x y below at
               (λ j z within is.
               let old = sound.roomy j z within is in
               record { room = old.room; numbers = old.numbers; latest = latest_stays (j + 1) z.latest old.latest })

@@ -7,6 +7,7 @@ use Rattle.std.proofs.lemmas.Bool.{cases_eq}
 use Rattle.std.proofs.lemmas.List.{length-map, map-set}
 use Rattle.std.proofs.lemmas.Option.{same_Some}
 use Rattle.std.proofs.Math.Seq.{map-set_same}
+use Rattle.std.specs.Arc.{arc_value}
 use Rattle.bf_locks.specs.declared.answer.LockAnswer.{LockAnswer}
 use Rattle.bf_locks.specs.declared.answer.LockAnswer.TheVariants.{Die, Granted, Wait}
 use Rattle.bf_locks.specs.declared.mode.Mode.{Mode}
@@ -129,7 +130,7 @@ module _ {N : Type 0} {opening : Database} {registry : Registry} {given : Script
   there : open_at m s ≡ Some o
   there = closing.there i sound before view s place x at g is
 
-  pub bounds : (1 ≤ g.first) × (g.first ≤ g.last) × (g.last ≤ length (session_at i.script s).statements)
+  pub bounds : (1 ≤ g.first) × (g.first ≤ g.last) × (g.last ≤ length (session_at (arc_value i.script) s).statements)
   bounds = closing.bounds i sound before view s place x at g is
 
   has : HasStart (map began_seen i.began.items) s o.group g.start
@@ -337,7 +338,7 @@ module _ {N : Type 0} {opening : Database} {registry : Registry} {given : Script
             let fate = subst (IsJudged i.locks g.start name mode) dies judged in
             let next : Machine = died m s o h in
             subst (IsKept opening) (sym seen_died)
-            (death_keeps_all opening m sound.kept (are_texts i.script) s name mode h next (asks_seen (Die h) fate next refl))
+            (death_keeps_all opening m sound.kept (are_texts (arc_value i.script)) s name mode h next (asks_seen (Die h) fate next refl))
 
         pub died_sound : SoundWith logged i free began sessions opening registry given
         died_sound =

@@ -1,6 +1,7 @@
 -- The end of a session's open group by a cause of a log.
 use Rattle.std.proofs.Common.{◌≡◌, ℕ, ◌+◌, ◌-◌, ◌≤◌, Bool, true, List, ◌++◌, map, replicate, take, Some, None, refl, sym, ap, subst, ◌∙◌, arith, vec_capacity}
 use Rattle.std.specs.Prelude.{slice_index_or, slice_set}
+use Rattle.std.specs.Arc.{arc_value}
 use Rattle.bf_locks.specs.Locks.{Locks, without_owner}
 use Rattle.bf_tree.specs.declared.reply.Cause.{Cause}
 use Rattle.bf_tree.specs.declared.reply.Reply.{Reply}
@@ -74,4 +75,4 @@ module _ {N : Type 0} {opening : Database} {registry : Registry} {given : Script
     pub fail_sound : y.latest ≡ x.latest → vec_capacity y.replies ≡ vec_capacity x.replies → SoundWith logged i free i.began.items (slice_set i.sessions.items (s - 1) y) opening registry given
     fail_sound latest capacity =
         closed_sound i sound before view s place x at g is answers y closed replies_of_it free i.began.items latest capacity (λ t k was. was)
-        (log_keeps_all opening m sound.kept (are_texts i.script) s then ends)
+        (log_keeps_all opening m sound.kept (are_texts (arc_value i.script)) s then ends)

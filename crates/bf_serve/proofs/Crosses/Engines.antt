@@ -16,7 +16,7 @@ use Rattle.bf_serve.specs.contracts.shared.Shared as Shared
 use Rattle.bf_serve.specs.declared.engine.Beginning as Beginning
 use Rattle.bf_trackers.proofs.Crosses.{seats_send, trackers_send, trackers_sync}
 use Rattle.bf_serve.proofs.Crosses.Machines.{Machine-send}
-use Rattle.bf_serve.proofs.Crosses.Scripts.{Script-sync}
+use Rattle.bf_serve.proofs.Crosses.Scripts.{Script-send, Script-sync}
 
 module _ (N : RattleType) (o : Opened.Ghosts N.Denot) where
   pub Lookups-send : IsSend N → IsSend (Lookups.the_row N o)
@@ -33,4 +33,4 @@ module _ (N J : RattleType) (b : Beginning.Ghosts N.Denot J.Denot) (o : Opened.G
   Engine-send n n' k = search (sendable, std.crosses, Machine-send, Lookups-send, Lookups-sync, Seat-send, catalog_pass.the_send) depth 60 fits 30000
 
   pub Shared-sync : (κ κ' : NamedLft) (R G : RattleType) → IsSend N → IsSync N → IsSend J → IsSync R → IsSync G → IsSync (Shared.the_row κ κ' N J R G b o j)
-  Shared-sync κ κ' R G n n' k r g = search (sendable, std.crosses, Engine-send, Registry-sync, Script-sync) depth 60 fits 30000
+  Shared-sync κ κ' R G n n' k r g = search (sendable, std.crosses, Engine-send, Registry-sync, Script-send, Script-sync) depth 60 fits 30000

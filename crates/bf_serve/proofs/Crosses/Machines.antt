@@ -17,7 +17,7 @@ use Rattle.bf_machine.specs.contracts.so_far.Pending as Pending
 use Rattle.bf_machine.specs.contracts.so_far.SessionSoFar as SessionSoFar
 use Rattle.bf_machine.specs.declared.opened.Opened as Opened
 use Rattle.bf_serve.proofs.Crosses.Plans.{Plan-send}
-use Rattle.bf_serve.proofs.Crosses.Scripts.{Script-send}
+use Rattle.bf_serve.proofs.Crosses.Scripts.{Script-send, Script-sync}
 
 Pending-send : IsSend Pending.the_field.row
 Pending-send = search (sendable, workspace.the_send, table.the_field_send, index.the_field_send, Plan-send) depth 60 fits 30000
@@ -29,4 +29,4 @@ SessionSoFar-send : IsSend SessionSoFar.the_field.row
 SessionSoFar-send = search (sendable, std.crosses, reply.the_field_send, OpenGroup-send) depth 60 fits 30000
 
 pub Machine-send : (N : RattleType) (o : Opened.Ghosts N.Denot) → IsSend N → IsSend (Machine.the_row N o)
-Machine-send N o s = search (sendable, std.crosses, Script-send, store.the_send, locks.the_send, began.the_field_send, SessionSoFar-send, entry.the_field_send, sequence.the_send, reply.the_field_send) depth 60 fits 30000
+Machine-send N o s = search (sendable, std.crosses, Script-send, Script-sync, store.the_send, locks.the_send, began.the_field_send, SessionSoFar-send, entry.the_field_send, sequence.the_send, reply.the_field_send) depth 60 fits 30000

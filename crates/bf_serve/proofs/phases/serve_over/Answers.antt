@@ -12,6 +12,11 @@ returns-in_default g c =
     let m = fresh g.N.Opened.logged c.args.store c.args.script c.args.crew.retries in
     record { come = (m, comes_at_once g.J.Journal.Answers g.N.Opened.opening g.N.Beginning.begins m c.args.journal (c.requires.begins m refl), tt, tt); migration = tt }
 
+pub returns-in_default-try_clone : goal.returns-in_default-try_clone
+returns-in_default-try_clone g c =
+    let m = fresh g.N.Opened.logged c.args.store c.args.script c.args.crew.retries in
+    record { come = (m, comes_at_once g.J.Journal.Answers g.N.Opened.opening g.N.Beginning.begins m c.args.journal (c.requires.begins m refl), tt, tt); migration = tt }
+
 pub returns-in-Err : goal.returns-in-Err
 returns-in-Err g c =
     let m = fresh g.N.Opened.logged c.args.store c.args.script c.args.crew.retries in

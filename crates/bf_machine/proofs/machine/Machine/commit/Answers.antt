@@ -2,6 +2,8 @@
 use Rattle.std.proofs.Common.{◌≡◌, ◌≢◌, ℕ, ◌+◌, ◌-◌, ◌≤◌, Err, List, Result, length, Some, refl, sym, ap, subst, ◌∙◌, arith}
 use Rattle.std.specs.Prelude.{slice_set}
 use Rattle.std.proofs.lemmas.List.{length-map, length-set}
+use Rattle.std.specs.Arc.{arc_value}
+use Rattle.bf_tree.specs.declared.script.Script.{Script}
 use Rattle.bf_tree.specs.declared.script.Session.{Session}
 use Rattle.bf_sql.specs.migrations.Lazy.{LazyState}
 use Rattle.bf_image.specs.Registries.{Registry}
@@ -35,9 +37,9 @@ settle-requires-clause-can g c =
     let i = c.self.inside in
     let s = c.args.session in
     let x : SessionSoFar = c.index_mut-so_far.result.now in
-    let place : IsPlace i.script s = subst (λ (m : Machine). IsPlace m.script s) (sym c.self.view_is) c.requires.place in
+    let place : IsPlace (arc_value i.script) s = subst (λ (m : Machine). IsPlace m.script s) (sym c.self.view_is) c.requires.place in
     let high : s ≤ length i.sessions.items = omega (arith, place.1, c.self.invariant.0.kept.shaped.opens, length-map i.sessions.items open_seen) in
-    can_settle g.N.Opened.logged i.script i.retries i.store i.locks i.began.items i.sessions.items i.history i.commits i.transcripts c.self.invariant.0
+    can_settle g.N.Opened.logged (arc_value i.script) i.retries i.store i.locks i.began.items i.sessions.items i.history i.commits i.transcripts c.self.invariant.0
     s place.0 high x (sym c.index_mut-so_far.ensures.value) c.in-Some.group (sym c.take.ensures.value ∙ c.in-Some.is)
 
 pub settle-requires-clause-stated : goal.settle-requires-clause-stated
@@ -46,9 +48,9 @@ settle-requires-clause-stated g c =
     let s = c.args.session in
     let x : SessionSoFar = c.index_mut-so_far.result.now in
     let Says = g.J.Journal.Says in
-    let place : IsPlace i.script s = subst (λ (m : Machine). IsPlace m.script s) (sym c.self.view_is) c.requires.place in
+    let place : IsPlace (arc_value i.script) s = subst (λ (m : Machine). IsPlace m.script s) (sym c.self.view_is) c.requires.place in
     let high : s ≤ length i.sessions.items = omega (arith, place.1, c.self.invariant.0.kept.shaped.opens, length-map i.sessions.items open_seen) in
-    is_stated g.N.Opened.logged i.script i.retries i.store i.locks i.began.items i.sessions.items i.history i.commits i.transcripts c.self.invariant.0
+    is_stated g.N.Opened.logged (arc_value i.script) i.retries i.store i.locks i.began.items i.sessions.items i.history i.commits i.transcripts c.self.invariant.0
     s place.0 high x (sym c.index_mut-so_far.ensures.value) c.in-Some.group (sym c.take.ensures.value ∙ c.in-Some.is)
     Says (subst (AreSaid Says) (sym c.self.invariant.0.is_given) c.requires.said)
 
@@ -57,10 +59,10 @@ overflow_add-number g c =
     let i = c.self.inside in
     let s = c.args.session in
     let x : SessionSoFar = c.index_mut-so_far.result.now in
-    let place : IsPlace i.script s = subst (λ (m : Machine). IsPlace m.script s) (sym c.self.view_is) c.requires.place in
+    let place : IsPlace (arc_value i.script) s = subst (λ (m : Machine). IsPlace m.script s) (sym c.self.view_is) c.requires.place in
     let high : s ≤ length i.sessions.items = omega (arith, place.1, c.self.invariant.0.kept.shaped.opens, length-map i.sessions.items open_seen) in
     let fits =
-    number_fits g.N.Opened.logged i.script i.retries i.store i.locks i.began.items i.sessions.items i.history i.commits i.transcripts c.self.invariant.0
+    number_fits g.N.Opened.logged (arc_value i.script) i.retries i.store i.locks i.began.items i.sessions.items i.history i.commits i.transcripts c.self.invariant.0
     s place.0 high x (sym c.index_mut-so_far.ensures.value) c.in-Some.group (sym c.take.ensures.value ∙ c.in-Some.is) in
     omega (arith, fits, i.history.ok.1)
 
@@ -69,23 +71,23 @@ close-requires g c =
     let i = c.self.inside in
     let s = c.args.session in
     let x : SessionSoFar = c.index_mut-so_far.result.now in
-    let place : IsPlace i.script s = subst (λ (m : Machine). IsPlace m.script s) (sym c.self.view_is) c.requires.place in
+    let place : IsPlace (arc_value i.script) s = subst (λ (m : Machine). IsPlace m.script s) (sym c.self.view_is) c.requires.place in
     let high : s ≤ length i.sessions.items = omega (arith, place.1, c.self.invariant.0.kept.shaped.opens, length-map i.sessions.items open_seen) in
-    room_for_reply g.N.Opened.logged i.script i.retries i.store i.locks i.began.items i.sessions.items i.history i.commits i.transcripts c.self.invariant.0
+    room_for_reply g.N.Opened.logged (arc_value i.script) i.retries i.store i.locks i.began.items i.sessions.items i.history i.commits i.transcripts c.self.invariant.0
     s place.0 high x (sym c.index_mut-so_far.ensures.value) c.in-Some.group (sym c.take.ensures.value ∙ c.in-Some.is)
 
 pub least_left_behind-self-inside-requires-clause-each : goal.least_left_behind-self-inside-requires-clause-each
 least_left_behind-self-inside-requires-clause-each g c =
     let i = c.self.inside in
-    let script = ap (λ (xs : List Session). length xs) c.as_slice.ensures in
-    let sessions = ap (λ (ys : List SessionSoFar). length ys) c.deref.ensures.value in
+    let script = ap (λ (xs : List Session). length xs) (c.as_slice.ensures ∙ ap (λ (script : Script). script.sessions) c.deref.ensures) in
+    let sessions = ap (λ (ys : List SessionSoFar). length ys) c.deref-2.ensures.value in
     omega (arith, script, sessions, c.self.invariant.0.kept.shaped.opens, length-map i.sessions.items open_seen, length-set i.sessions.items (c.args.session - 1) c.close.new.so_far)
 
 pub least_left_behind-self-inside-requires-clause-place : goal.least_left_behind-self-inside-requires-clause-place
 least_left_behind-self-inside-requires-clause-place g c =
     let i = c.self.inside in
-    let place : IsPlace i.script c.args.session = subst (λ (m : Machine). IsPlace m.script c.args.session) (sym c.self.view_is) c.requires.place in
-    let sessions = ap (λ (ys : List SessionSoFar). length ys) c.deref.ensures.value in
+    let place : IsPlace (arc_value i.script) c.args.session = subst (λ (m : Machine). IsPlace m.script c.args.session) (sym c.self.view_is) c.requires.place in
+    let sessions = ap (λ (ys : List SessionSoFar). length ys) c.deref-2.ensures.value in
     omega (arith, place.0, place.1, sessions, c.self.invariant.0.kept.shaped.opens, length-map i.sessions.items open_seen, length-set i.sessions.items (c.args.session - 1) c.close.new.so_far)
 
 pub invariant_of-self-2 : goal.invariant_of-self-2
@@ -93,19 +95,19 @@ invariant_of-self-2 g c =
     let i = c.self.inside in
     let s = c.args.session in
     let x : SessionSoFar = c.index_mut-so_far.result.now in
-    let place : IsPlace i.script s = subst (λ (m : Machine). IsPlace m.script s) (sym c.self.view_is) c.requires.place in
+    let place : IsPlace (arc_value i.script) s = subst (λ (m : Machine). IsPlace m.script s) (sym c.self.view_is) c.requires.place in
     let high : s ≤ length i.sessions.items = omega (arith, place.1, c.self.invariant.0.kept.shaped.opens, length-map i.sessions.items open_seen) in
-    let m : Machine = seen g.N.Opened.logged i.script i.retries i.store i.locks i.began.items i.sessions.items i.history.items in
+    let m : Machine = seen g.N.Opened.logged (arc_value i.script) i.retries i.store i.locks i.began.items i.sessions.items i.history.items in
     let can : CanCommit m s = subst (λ (m : Machine). CanCommit m s) (sym c.self.view_is) c.requires.can in
     let ends = c.close.ensures in
     let pushed = c.push_reserved in
     let settled = c.in_default-settle.ensures in
     let one = subst (λ (registry : Registry). IsOf registry c.settle.new.store.migration) c.requires.registry settled.one in
-    let goes_on = goes_on_at g.N.Opened.logged i.script i.retries i.store i.locks i.began.items i.sessions.items i.history.items s place.0 (open_goes_on m s can.o can.is) in
+    let goes_on = goes_on_at g.N.Opened.logged (arc_value i.script) i.retries i.store i.locks i.began.items i.sessions.items i.history.items s place.0 (open_goes_on m s can.o can.is) in
     let least =
-    least_behind i.script.sessions i.sessions.items (s - 1) c.close.new.so_far i.least_left c.self.invariant.1 goes_on
-    c.as_slice.ensures c.deref.ensures.value c.least_left_behind-self-inside.result c.least_left_behind-self-inside.ensures in (
-      commit_sound g.N.Opened.logged i.script i.retries i.store i.locks i.began.items i.sessions.items i.history i.commits i.transcripts c.self.invariant.0
+    least_behind (arc_value i.script).sessions i.sessions.items (s - 1) c.close.new.so_far i.least_left c.self.invariant.1 goes_on
+    (c.as_slice.ensures ∙ ap (λ (script : Script). script.sessions) c.deref.ensures) c.deref-2.ensures.value c.least_left_behind-self-inside.result c.least_left_behind-self-inside.ensures in (
+      commit_sound g.N.Opened.logged (arc_value i.script) i.retries i.store i.locks i.began.items i.sessions.items i.history i.commits i.transcripts c.self.invariant.0
           s place.0 high x (sym c.index_mut-so_far.ensures.value) c.in-Some.group (sym c.take.ensures.value ∙ c.in-Some.is) can
           c.close.new.so_far ends.closed ends.latest ends.capacity ends.replies
           c.free_all.new.self c.free_all.ensures.freed c.settle.new.store settled.ok settled.by_pass one settled.same pushed.new.self pushed.ensures.items pushed.ensures.capacity,
@@ -117,17 +119,17 @@ returns-clause-ending g c =
     let i = c.self.inside in
     let s = c.args.session in
     let x : SessionSoFar = c.index_mut-so_far.result.now in
-    let place : IsPlace i.script s = subst (λ (m : Machine). IsPlace m.script s) (sym c.self.view_is) c.requires.place in
+    let place : IsPlace (arc_value i.script) s = subst (λ (m : Machine). IsPlace m.script s) (sym c.self.view_is) c.requires.place in
     let high : s ≤ length i.sessions.items = omega (arith, place.1, c.self.invariant.0.kept.shaped.opens, length-map i.sessions.items open_seen) in
-    let m : Machine = seen g.N.Opened.logged i.script i.retries i.store i.locks i.began.items i.sessions.items i.history.items in
+    let m : Machine = seen g.N.Opened.logged (arc_value i.script) i.retries i.store i.locks i.began.items i.sessions.items i.history.items in
     let can : CanCommit m s = subst (λ (m : Machine). CanCommit m s) (sym c.self.view_is) c.requires.can in
     let ends = c.close.ensures in
     let pushed = c.push_reserved in
     let settled = c.in_default-settle.ensures in
     let one = subst (λ (registry : Registry). IsOf registry c.settle.new.store.migration) c.requires.registry settled.one in
-    let next : Machine = seen g.N.Opened.logged i.script i.retries c.settle.new.store c.free_all.new.self i.began.items (slice_set i.sessions.items (s - 1) c.close.new.so_far) pushed.new.self.items in
+    let next : Machine = seen g.N.Opened.logged (arc_value i.script) i.retries c.settle.new.store c.free_all.new.self i.began.items (slice_set i.sessions.items (s - 1) c.close.new.so_far) pushed.new.self.items in
     let commits = subst (λ (m : Machine). Commits m s next) c.self.view_is
-    (commit_seen g.N.Opened.logged i.script i.retries i.store i.locks i.began.items i.sessions.items i.history i.commits i.transcripts c.self.invariant.0
+    (commit_seen g.N.Opened.logged (arc_value i.script) i.retries i.store i.locks i.began.items i.sessions.items i.history i.commits i.transcripts c.self.invariant.0
     s place.0 high x (sym c.index_mut-so_far.ensures.value) c.in-Some.group (sym c.take.ensures.value ∙ c.in-Some.is) can
     c.close.new.so_far ends.closed ends.latest ends.capacity ends.replies
     c.free_all.new.self c.free_all.ensures.freed c.settle.new.store settled.ok settled.by_pass one settled.same pushed.new.self pushed.ensures.items pushed.ensures.capacity) in
@@ -141,9 +143,9 @@ invariant_of-self g c =
     let stays =
     sessions_stay i.sessions.items (s - 1) x (sym c.index_mut-so_far.ensures.value) c.in-Some.group
     (sym c.take.ensures.value ∙ c.in-Some.is) c.settle.new.pending c.in-Err.ensures.kept in (
-      subst (λ (sessions : List SessionSoFar). IsSound g.N.Opened.opening g.N.Opened.registry g.N.Opened.script g.N.Opened.logged i.script i.retries c.settle.new.store i.locks i.began.items sessions i.history i.commits i.transcripts) (sym stays)
-          (subst (λ (store : Store). IsSound g.N.Opened.opening g.N.Opened.registry g.N.Opened.script g.N.Opened.logged i.script i.retries store i.locks i.began.items i.sessions.items i.history i.commits i.transcripts) (sym c.in-Err.ensures.err) c.self.invariant.0),
-      subst (λ (sessions : List SessionSoFar). IsLeastLeft i.script.sessions sessions (length sessions) i.least_left) (sym stays) c.self.invariant.1,
+      subst (λ (sessions : List SessionSoFar). IsSound g.N.Opened.opening g.N.Opened.registry g.N.Opened.script g.N.Opened.logged (arc_value i.script) i.retries c.settle.new.store i.locks i.began.items sessions i.history i.commits i.transcripts) (sym stays)
+          (subst (λ (store : Store). IsSound g.N.Opened.opening g.N.Opened.registry g.N.Opened.script g.N.Opened.logged (arc_value i.script) i.retries store i.locks i.began.items i.sessions.items i.history i.commits i.transcripts) (sym c.in-Err.ensures.err) c.self.invariant.0),
+      subst (λ (sessions : List SessionSoFar). IsLeastLeft (arc_value i.script).sessions sessions (length sessions) i.least_left) (sym stays) c.self.invariant.1,
     )
 
 pub invariant_of-self-in-Ended : goal.invariant_of-self-in-Ended
@@ -154,9 +156,9 @@ invariant_of-self-in-Ended g c =
     let stays =
     sessions_stay i.sessions.items (s - 1) x (sym c.index_mut-so_far.ensures.value) c.in-Some.group
     (sym c.take.ensures.value ∙ c.in-Some.is) c.settle.new.pending c.in-Err.ensures.kept in (
-      subst (λ (sessions : List SessionSoFar). IsSound g.N.Opened.opening g.N.Opened.registry g.N.Opened.script g.N.Opened.logged i.script i.retries c.settle.new.store i.locks i.began.items sessions i.history i.commits i.transcripts) (sym stays)
-          (subst (λ (store : Store). IsSound g.N.Opened.opening g.N.Opened.registry g.N.Opened.script g.N.Opened.logged i.script i.retries store i.locks i.began.items i.sessions.items i.history i.commits i.transcripts) (sym c.in-Err.ensures.err) c.self.invariant.0),
-      subst (λ (sessions : List SessionSoFar). IsLeastLeft i.script.sessions sessions (length sessions) i.least_left) (sym stays) c.self.invariant.1,
+      subst (λ (sessions : List SessionSoFar). IsSound g.N.Opened.opening g.N.Opened.registry g.N.Opened.script g.N.Opened.logged (arc_value i.script) i.retries c.settle.new.store i.locks i.began.items sessions i.history i.commits i.transcripts) (sym stays)
+          (subst (λ (store : Store). IsSound g.N.Opened.opening g.N.Opened.registry g.N.Opened.script g.N.Opened.logged (arc_value i.script) i.retries store i.locks i.began.items i.sessions.items i.history i.commits i.transcripts) (sym c.in-Err.ensures.err) c.self.invariant.0),
+      subst (λ (sessions : List SessionSoFar). IsLeastLeft (arc_value i.script).sessions sessions (length sessions) i.least_left) (sym stays) c.self.invariant.1,
     )
 
 pub fail-requires-clause-open : goal.fail-requires-clause-open
@@ -168,9 +170,9 @@ fail-requires-clause-open g c =
     let stays =
     sessions_stay i.sessions.items (s - 1) x (sym c.index_mut-so_far.ensures.value) c.in-Some.group
     (sym c.take.ensures.value ∙ c.in-Some.is) c.settle.new.pending c.in-Err.ensures.kept in
-    let back : seen g.N.Opened.logged i.script i.retries c.settle.new.store i.locks i.began.items (slice_set i.sessions.items (s - 1) z) i.history.items ≡ c.args.self.now =
-    ap (λ (sessions : List SessionSoFar). seen g.N.Opened.logged i.script i.retries c.settle.new.store i.locks i.began.items sessions i.history.items) stays
-    ∙ (ap (λ (store : Store). seen g.N.Opened.logged i.script i.retries store i.locks i.began.items i.sessions.items i.history.items) c.in-Err.ensures.err ∙ c.self.view_is) in
+    let back : seen g.N.Opened.logged (arc_value i.script) i.retries c.settle.new.store i.locks i.began.items (slice_set i.sessions.items (s - 1) z) i.history.items ≡ c.args.self.now =
+    ap (λ (sessions : List SessionSoFar). seen g.N.Opened.logged (arc_value i.script) i.retries c.settle.new.store i.locks i.began.items sessions i.history.items) stays
+    ∙ (ap (λ (store : Store). seen g.N.Opened.logged (arc_value i.script) i.retries store i.locks i.began.items i.sessions.items i.history.items) c.in-Err.ensures.err ∙ c.self.view_is) in
     let can = c.requires.can in
     let may : CanFail c.args.self.now s = record { current = can.current; o = can.o; is = can.is } in
     subst (λ (m : Machine). CanFail m s) (sym back) may
@@ -184,9 +186,9 @@ returns-in-Memory-clause-err g c =
     let stays =
     sessions_stay i.sessions.items (s - 1) x (sym c.index_mut-so_far.ensures.value) c.in-Some.group
     (sym c.take.ensures.value ∙ c.in-Some.is) c.settle.new.pending c.in-Err.ensures.kept in
-    let back : seen g.N.Opened.logged i.script i.retries c.settle.new.store i.locks i.began.items (slice_set i.sessions.items (s - 1) z) i.history.items ≡ c.args.self.now =
-    ap (λ (sessions : List SessionSoFar). seen g.N.Opened.logged i.script i.retries c.settle.new.store i.locks i.began.items sessions i.history.items) stays
-    ∙ (ap (λ (store : Store). seen g.N.Opened.logged i.script i.retries store i.locks i.began.items i.sessions.items i.history.items) c.in-Err.ensures.err ∙ c.self.view_is) in
+    let back : seen g.N.Opened.logged (arc_value i.script) i.retries c.settle.new.store i.locks i.began.items (slice_set i.sessions.items (s - 1) z) i.history.items ≡ c.args.self.now =
+    ap (λ (sessions : List SessionSoFar). seen g.N.Opened.logged (arc_value i.script) i.retries c.settle.new.store i.locks i.began.items sessions i.history.items) stays
+    ∙ (ap (λ (store : Store). seen g.N.Opened.logged (arc_value i.script) i.retries store i.locks i.began.items i.sessions.items i.history.items) c.in-Err.ensures.err ∙ c.self.view_is) in
     back
 
 pub returns-in-Ended-clause-ending : goal.returns-in-Ended-clause-ending
@@ -198,9 +200,9 @@ returns-in-Ended-clause-ending g c =
     let stays =
     sessions_stay i.sessions.items (s - 1) x (sym c.index_mut-so_far.ensures.value) c.in-Some.group
     (sym c.take.ensures.value ∙ c.in-Some.is) c.settle.new.pending c.in-Err.ensures.kept in
-    let back : seen g.N.Opened.logged i.script i.retries c.settle.new.store i.locks i.began.items (slice_set i.sessions.items (s - 1) z) i.history.items ≡ c.args.self.now =
-    ap (λ (sessions : List SessionSoFar). seen g.N.Opened.logged i.script i.retries c.settle.new.store i.locks i.began.items sessions i.history.items) stays
-    ∙ (ap (λ (store : Store). seen g.N.Opened.logged i.script i.retries store i.locks i.began.items i.sessions.items i.history.items) c.in-Err.ensures.err ∙ c.self.view_is) in
+    let back : seen g.N.Opened.logged (arc_value i.script) i.retries c.settle.new.store i.locks i.began.items (slice_set i.sessions.items (s - 1) z) i.history.items ≡ c.args.self.now =
+    ap (λ (sessions : List SessionSoFar). seen g.N.Opened.logged (arc_value i.script) i.retries c.settle.new.store i.locks i.began.items sessions i.history.items) stays
+    ∙ (ap (λ (store : Store). seen g.N.Opened.logged (arc_value i.script) i.retries store i.locks i.began.items i.sessions.items i.history.items) c.in-Err.ensures.err ∙ c.self.view_is) in
     subst (λ (m : Machine). (by : EndsByLog m s c.fail.new.self) × (by.cause ≡ c.in-Ended.cause)) back c.fail.ensures
 
 pub returns-in-Ended-clause-beside : goal.returns-in-Ended-clause-beside
@@ -211,12 +213,12 @@ returns-in-Memory-clause-beside g c = λ _.
     let i = c.self.inside in
     let s = c.args.session in
     let x : SessionSoFar = c.index_mut-so_far.result.now in
-    let place : IsPlace i.script s = subst (λ (m : Machine). IsPlace m.script s) (sym c.self.view_is) c.requires.place in
+    let place : IsPlace (arc_value i.script) s = subst (λ (m : Machine). IsPlace m.script s) (sym c.self.view_is) c.requires.place in
     let high : s ≤ length i.sessions.items = omega (arith, place.1, c.self.invariant.0.kept.shaped.opens, length-map i.sessions.items open_seen) in
-    let m : Machine = seen g.N.Opened.logged i.script i.retries i.store i.locks i.began.items i.sessions.items i.history.items in
+    let m : Machine = seen g.N.Opened.logged (arc_value i.script) i.retries i.store i.locks i.began.items i.sessions.items i.history.items in
     let can : CanCommit m s = subst (λ (m : Machine). CanCommit m s) (sym c.self.view_is) c.requires.can in
     let own : (next : LazyState) → IsPutInto i.store.lazy (pending_seen c.in-Some.group.pending) next → IsLeftFor m s next =
-    left_for g.N.Opened.logged i.script i.retries i.store i.locks i.began.items i.sessions.items i.history i.commits i.transcripts c.self.invariant.0
+    left_for g.N.Opened.logged (arc_value i.script) i.retries i.store i.locks i.began.items i.sessions.items i.history i.commits i.transcripts c.self.invariant.0
     s place.0 high x (sym c.index_mut-so_far.ensures.value) c.in-Some.group (sym c.take.ensures.value ∙ c.in-Some.is) can in
     let Answers = g.J.Journal.Answers in
     let j = c.args.journal.now in
@@ -229,12 +231,12 @@ returns-in-Ended-clause-refused g c = λ cause is.
     let i = c.self.inside in
     let s = c.args.session in
     let x : SessionSoFar = c.index_mut-so_far.result.now in
-    let place : IsPlace i.script s = subst (λ (m : Machine). IsPlace m.script s) (sym c.self.view_is) c.requires.place in
+    let place : IsPlace (arc_value i.script) s = subst (λ (m : Machine). IsPlace m.script s) (sym c.self.view_is) c.requires.place in
     let high : s ≤ length i.sessions.items = omega (arith, place.1, c.self.invariant.0.kept.shaped.opens, length-map i.sessions.items open_seen) in
-    let m : Machine = seen g.N.Opened.logged i.script i.retries i.store i.locks i.began.items i.sessions.items i.history.items in
+    let m : Machine = seen g.N.Opened.logged (arc_value i.script) i.retries i.store i.locks i.began.items i.sessions.items i.history.items in
     let can : CanCommit m s = subst (λ (m : Machine). CanCommit m s) (sym c.self.view_is) c.requires.can in
     let own : (next : LazyState) → IsPutInto i.store.lazy (pending_seen c.in-Some.group.pending) next → IsLeftFor m s next =
-    left_for g.N.Opened.logged i.script i.retries i.store i.locks i.began.items i.sessions.items i.history i.commits i.transcripts c.self.invariant.0
+    left_for g.N.Opened.logged (arc_value i.script) i.retries i.store i.locks i.began.items i.sessions.items i.history i.commits i.transcripts c.self.invariant.0
     s place.0 high x (sym c.index_mut-so_far.ensures.value) c.in-Some.group (sym c.take.ensures.value ∙ c.in-Some.is) can in
     let Answers = g.J.Journal.Answers in
     let j = c.args.journal.now in
@@ -248,12 +250,12 @@ returns-clause-beside g c = λ _.
     let i = c.self.inside in
     let s = c.args.session in
     let x : SessionSoFar = c.index_mut-so_far.result.now in
-    let place : IsPlace i.script s = subst (λ (m : Machine). IsPlace m.script s) (sym c.self.view_is) c.requires.place in
+    let place : IsPlace (arc_value i.script) s = subst (λ (m : Machine). IsPlace m.script s) (sym c.self.view_is) c.requires.place in
     let high : s ≤ length i.sessions.items = omega (arith, place.1, c.self.invariant.0.kept.shaped.opens, length-map i.sessions.items open_seen) in
-    let m : Machine = seen g.N.Opened.logged i.script i.retries i.store i.locks i.began.items i.sessions.items i.history.items in
+    let m : Machine = seen g.N.Opened.logged (arc_value i.script) i.retries i.store i.locks i.began.items i.sessions.items i.history.items in
     let can : CanCommit m s = subst (λ (m : Machine). CanCommit m s) (sym c.self.view_is) c.requires.can in
     let own : (next : LazyState) → IsPutInto i.store.lazy (pending_seen c.in-Some.group.pending) next → IsLeftFor m s next =
-    left_for g.N.Opened.logged i.script i.retries i.store i.locks i.began.items i.sessions.items i.history i.commits i.transcripts c.self.invariant.0
+    left_for g.N.Opened.logged (arc_value i.script) i.retries i.store i.locks i.began.items i.sessions.items i.history i.commits i.transcripts c.self.invariant.0
     s place.0 high x (sym c.index_mut-so_far.ensures.value) c.in-Some.group (sym c.take.ensures.value ∙ c.in-Some.is) can in
     let Answers = g.J.Journal.Answers in
     let j = c.args.journal.now in

@@ -3,6 +3,7 @@ use Rattle.std.proofs.Common.{◌≡◌, ◌≢◌, ℕ, Bool, true, false, Bor,
 use Rattle.std.specs.Option.{option_copied, option_map_or}
 use Rattle.std.specs.Result.{IsErr, IsErrAnd}
 use Rattle.std.proofs.lemmas.Bool.{false≢true}
+use Rattle.std.specs.Arc.{arc_value}
 use Rattle.boxcar.specs.Table.{Where}
 use Rattle.bf_sql.specs.migrations.Lazy.{migrations_so_far}
 use Rattle.bf_image.specs.Registries.{Registry}
@@ -112,7 +113,7 @@ invariant_of-self g c =
     let passes = by_copied (λ (p : Where Kept). p.value) c.as_ref-last.result ∙ ap (option_map (λ (p : Where Kept). p.value)) (c.as_ref-last.ensures.value ∙ c.migration-last.ensures.pass) in
     let same : option_map (λ (p : Where Kept). p.value) i.store.migration ≡ Some value = sym (c.are_same-same.ensures.values c.if-not-same.false ∙ passes) in
     let are : AreGranulesIfAny i.store.lazy.last c.args.granules.now = of_the_last i.store.lazy.last i.store.migration c.migration-last.ensures.by_pass value same c.args.granules.now c.requires.granules.of_it in (
-      moved_sound g.N.Opened.logged i.script i.retries i.store i.locks i.began.items i.sessions.items i.history i.commits i.transcripts c.self.invariant.0
+      moved_sound g.N.Opened.logged (arc_value i.script) i.retries i.store i.locks i.began.items i.sessions.items i.history i.commits i.transcripts c.self.invariant.0
           c.args.granules.now are c.move_granules.new.self c.in-Ok.ensures.ok.state c.in-Ok.ensures.migration,
       c.self.invariant.1,
     )
@@ -120,7 +121,7 @@ invariant_of-self g c =
 pub invariant_of-self-2 : goal.invariant_of-self-2
 invariant_of-self-2 g c =
     let i = c.self.inside in
-    (subst (λ (store : Store). IsSound g.N.Opened.opening g.N.Opened.registry g.N.Opened.script g.N.Opened.logged i.script i.retries store i.locks i.began.items i.sessions.items i.history i.commits i.transcripts) (sym c.in-Err.ensures.err) c.self.invariant.0, c.self.invariant.1)
+    (subst (λ (store : Store). IsSound g.N.Opened.opening g.N.Opened.registry g.N.Opened.script g.N.Opened.logged (arc_value i.script) i.retries store i.locks i.began.items i.sessions.items i.history i.commits i.transcripts) (sym c.in-Err.ensures.err) c.self.invariant.0, c.self.invariant.1)
 
 pub returns-in-Ok-clause-moves : goal.returns-in-Ok-clause-moves
 returns-in-Ok-clause-moves g c =
@@ -129,9 +130,9 @@ returns-in-Ok-clause-moves g c =
     let passes = by_copied (λ (p : Where Kept). p.value) c.as_ref-last.result ∙ ap (option_map (λ (p : Where Kept). p.value)) (c.as_ref-last.ensures.value ∙ c.migration-last.ensures.pass) in
     let same : option_map (λ (p : Where Kept). p.value) i.store.migration ≡ Some value = sym (c.are_same-same.ensures.values c.if-not-same.false ∙ passes) in
     let are : AreGranulesIfAny i.store.lazy.last c.args.granules.now = of_the_last i.store.lazy.last i.store.migration c.migration-last.ensures.by_pass value same c.args.granules.now c.requires.granules.of_it in
-    let next : Machine = seen g.N.Opened.logged i.script i.retries c.move_granules.new.self i.locks i.began.items i.sessions.items i.history.items in
+    let next : Machine = seen g.N.Opened.logged (arc_value i.script) i.retries c.move_granules.new.self i.locks i.began.items i.sessions.items i.history.items in
     subst (λ (m : Machine). Moves m c.args.granules.now next) c.self.view_is
-    (moves g.N.Opened.logged i.script i.retries i.store i.locks i.began.items i.sessions.items i.history i.commits i.transcripts c.self.invariant.0
+    (moves g.N.Opened.logged (arc_value i.script) i.retries i.store i.locks i.began.items i.sessions.items i.history i.commits i.transcripts c.self.invariant.0
     c.args.granules.now are c.move_granules.new.self c.in-Ok.ensures.ok.state c.in-Ok.ensures.migration)
 
 pub returns-in-Ok-clause-of_it : goal.returns-in-Ok-clause-of_it
@@ -161,7 +162,7 @@ returns-clause-old g c = λ differs.
 pub returns-clause-err : goal.returns-clause-err
 returns-clause-err g c =
     let i = c.self.inside in
-    ap (λ (store : Store). seen g.N.Opened.logged i.script i.retries store i.locks i.began.items i.sessions.items i.history.items) c.in-Err.ensures.err ∙ c.self.view_is
+    ap (λ (store : Store). seen g.N.Opened.logged (arc_value i.script) i.retries store i.locks i.began.items i.sessions.items i.history.items) c.in-Err.ensures.err ∙ c.self.view_is
 
 pub returns-in_err-kept-clause-ended : goal.returns-in_err-kept-clause-ended
 returns-in_err-kept-clause-ended g c = λ cause is.

@@ -2,6 +2,8 @@
 use Rattle.std.proofs.Common.{◌≡◌, ◌-◌, ◌≤◌, List, length, subst, sym, ap, ◌∙◌, arith}
 use Rattle.std.specs.Prelude.{slice_set}
 use Rattle.std.proofs.lemmas.List.{length-map, length-set}
+use Rattle.std.specs.Arc.{arc_value}
+use Rattle.bf_tree.specs.declared.script.Script.{Script}
 use Rattle.bf_tree.specs.declared.script.Session.{Session}
 use Rattle.bf_sql.specs.migrations.Need.{needed_for}
 use Rattle.bf_store.specs.States.{HaveMoved}
@@ -18,13 +20,13 @@ reply_in-requires g c =
     let i = c.self.inside in
     let s = c.args.session in
     let x : SessionSoFar = c.index_mut-so_far.result.now in
-    let m : Machine = seen g.N.Opened.logged i.script i.retries i.store i.locks i.began.items i.sessions.items i.history.items in
-    let place : IsPlace i.script s = subst (λ (m : Machine). IsPlace m.script s) (sym c.self.view_is) c.requires.place in
+    let m : Machine = seen g.N.Opened.logged (arc_value i.script) i.retries i.store i.locks i.began.items i.sessions.items i.history.items in
+    let place : IsPlace (arc_value i.script) s = subst (λ (m : Machine). IsPlace m.script s) (sym c.self.view_is) c.requires.place in
     let high : s ≤ length i.sessions.items = omega (arith, place.1, c.self.invariant.0.kept.shaped.opens, length-map i.sessions.items open_seen) in
     let can : CanExec m s g.N.Opened.opening c.args.bound.now = subst (λ (m : Machine). CanExec m s g.N.Opened.opening c.args.bound.now) (sym c.self.view_is) c.requires.can in
     let number : c.args.bound.now.catalog ≡ m.db.number = subst (λ (m : Machine). c.args.bound.now.catalog ≡ m.db.number) (sym c.self.view_is) c.requires.current in
     let moved = subst (λ (m : Machine). HaveMoved m.lazy.last (λ last. needed_for last.old last.migrate c.args.bound.now.action)) (sym c.self.view_is) c.requires.moved in
-    may_reply g.N.Opened.logged i.script i.retries i.store i.locks i.began.items i.sessions.items i.history i.commits i.transcripts c.self.invariant.0 s place.0 high x (sym c.index_mut-so_far.ensures.value)
+    may_reply g.N.Opened.logged (arc_value i.script) i.retries i.store i.locks i.began.items i.sessions.items i.history i.commits i.transcripts c.self.invariant.0 s place.0 high x (sym c.index_mut-so_far.ensures.value)
     c.args.bound.now can number moved
 
 pub push_reserved-requires : goal.push_reserved-requires
@@ -32,8 +34,8 @@ push_reserved-requires g c =
     let i = c.self.inside in
     let s = c.args.session in
     let x : SessionSoFar = c.index_mut-so_far.result.now in
-    let m : Machine = seen g.N.Opened.logged i.script i.retries i.store i.locks i.began.items i.sessions.items i.history.items in
-    let place : IsPlace i.script s = subst (λ (m : Machine). IsPlace m.script s) (sym c.self.view_is) c.requires.place in
+    let m : Machine = seen g.N.Opened.logged (arc_value i.script) i.retries i.store i.locks i.began.items i.sessions.items i.history.items in
+    let place : IsPlace (arc_value i.script) s = subst (λ (m : Machine). IsPlace m.script s) (sym c.self.view_is) c.requires.place in
     let high : s ≤ length i.sessions.items = omega (arith, place.1, c.self.invariant.0.kept.shaped.opens, length-map i.sessions.items open_seen) in
     let can : CanExec m s g.N.Opened.opening c.args.bound.now = subst (λ (m : Machine). CanExec m s g.N.Opened.opening c.args.bound.now) (sym c.self.view_is) c.requires.can in
     let number : c.args.bound.now.catalog ≡ m.db.number = subst (λ (m : Machine). c.args.bound.now.catalog ≡ m.db.number) (sym c.self.view_is) c.requires.current in
@@ -41,7 +43,7 @@ push_reserved-requires g c =
     omega (
       arith,
       x.replies.ok.0,
-      room_for_next g.N.Opened.logged i.script i.retries i.store i.locks i.began.items i.sessions.items i.history i.commits i.transcripts c.self.invariant.0 s place.0 high x
+      room_for_next g.N.Opened.logged (arc_value i.script) i.retries i.store i.locks i.began.items i.sessions.items i.history i.commits i.transcripts c.self.invariant.0 s place.0 high x
           (sym c.index_mut-so_far.ensures.value) c.args.bound.now can number moved,
     )
 
@@ -50,22 +52,22 @@ invariant_of-self g c =
     let i = c.self.inside in
     let s = c.args.session in
     let x : SessionSoFar = c.index_mut-so_far.result.now in
-    let place : IsPlace i.script s = subst (λ (m : Machine). IsPlace m.script s) (sym c.self.view_is) c.requires.place in
+    let place : IsPlace (arc_value i.script) s = subst (λ (m : Machine). IsPlace m.script s) (sym c.self.view_is) c.requires.place in
     let high : s ≤ length i.sessions.items = omega (arith, place.1, c.self.invariant.0.kept.shaped.opens, length-map i.sessions.items open_seen) in
-    let m : Machine = seen g.N.Opened.logged i.script i.retries i.store i.locks i.began.items i.sessions.items i.history.items in
+    let m : Machine = seen g.N.Opened.logged (arc_value i.script) i.retries i.store i.locks i.began.items i.sessions.items i.history.items in
     let can : CanExec m s g.N.Opened.opening c.args.bound.now = subst (λ (m : Machine). CanExec m s g.N.Opened.opening c.args.bound.now) (sym c.self.view_is) c.requires.can in
-    let goes = exec_goes_on g.N.Opened.logged i.script i.retries i.store i.locks i.began.items i.sessions.items i.history.items c.self.invariant.0.kept s g.N.Opened.opening c.args.bound.now can in
+    let goes = exec_goes_on g.N.Opened.logged (arc_value i.script) i.retries i.store i.locks i.began.items i.sessions.items i.history.items c.self.invariant.0.kept s g.N.Opened.opening c.args.bound.now can in
     let z : SessionSoFar = record { replies = x.replies; «open» = c.reply_in.new.group; latest = x.latest } in
-    let still : seen g.N.Opened.logged i.script i.retries i.store i.locks i.began.items (slice_set i.sessions.items (s - 1) z) i.history.items
-    ≡ seen g.N.Opened.logged i.script i.retries i.store i.locks i.began.items i.sessions.items i.history.items =
-    seen_unanswered g.N.Opened.logged i.script i.retries i.store i.locks i.began.items i.sessions.items i.history i.commits i.transcripts c.self.invariant.0 s place.0 high x
+    let still : seen g.N.Opened.logged (arc_value i.script) i.retries i.store i.locks i.began.items (slice_set i.sessions.items (s - 1) z) i.history.items
+    ≡ seen g.N.Opened.logged (arc_value i.script) i.retries i.store i.locks i.began.items i.sessions.items i.history.items =
+    seen_unanswered g.N.Opened.logged (arc_value i.script) i.retries i.store i.locks i.began.items i.sessions.items i.history i.commits i.transcripts c.self.invariant.0 s place.0 high x
     (sym c.index_mut-so_far.ensures.value) c.reply_in.new.group (λ is. (c.in_err-reply.ensures.refused is).0)
     (λ g is. let so = c.in_err-reply.ensures.answered g is in (so.0, so.1, so.3)) in (
-      unanswered_sound g.N.Opened.logged i.script i.retries i.store i.locks i.began.items i.sessions.items i.history i.commits i.transcripts c.self.invariant.0 s place.0 high x
+      unanswered_sound g.N.Opened.logged (arc_value i.script) i.retries i.store i.locks i.began.items i.sessions.items i.history i.commits i.transcripts c.self.invariant.0 s place.0 high x
           (sym c.index_mut-so_far.ensures.value) c.reply_in.new.group (λ is. (c.in_err-reply.ensures.refused is).0)
           (λ g is. let so = c.in_err-reply.ensures.answered g is in (so.0, so.1, so.3)),
-      least_stays i.script.sessions i.sessions.items (s - 1) z i.least_left c.self.invariant.1 (goes_on_at g.N.Opened.logged i.script i.retries i.store i.locks i.began.items i.sessions.items i.history.items s place.0 goes)
-          (λ is. goes_on_at g.N.Opened.logged i.script i.retries i.store i.locks i.began.items (slice_set i.sessions.items (s - 1) z) i.history.items s place.0
+      least_stays (arc_value i.script).sessions i.sessions.items (s - 1) z i.least_left c.self.invariant.1 (goes_on_at g.N.Opened.logged (arc_value i.script) i.retries i.store i.locks i.began.items i.sessions.items i.history.items s place.0 goes)
+          (λ is. goes_on_at g.N.Opened.logged (arc_value i.script) i.retries i.store i.locks i.began.items (slice_set i.sessions.items (s - 1) z) i.history.items s place.0
           (subst (λ (m : Machine). HasSessionEnded m s → ⊥) (sym still) goes)),
     )
 
@@ -74,10 +76,10 @@ returns-in_err-reply-clause-err g c =
     let i = c.self.inside in
     let s = c.args.session in
     let x : SessionSoFar = c.index_mut-so_far.result.now in
-    let place : IsPlace i.script s = subst (λ (m : Machine). IsPlace m.script s) (sym c.self.view_is) c.requires.place in
+    let place : IsPlace (arc_value i.script) s = subst (λ (m : Machine). IsPlace m.script s) (sym c.self.view_is) c.requires.place in
     let high : s ≤ length i.sessions.items = omega (arith, place.1, c.self.invariant.0.kept.shaped.opens, length-map i.sessions.items open_seen) in
     on_err c.from_residual.result _
-    (seen_unanswered g.N.Opened.logged i.script i.retries i.store i.locks i.began.items i.sessions.items i.history i.commits i.transcripts c.self.invariant.0 s place.0 high x
+    (seen_unanswered g.N.Opened.logged (arc_value i.script) i.retries i.store i.locks i.began.items i.sessions.items i.history i.commits i.transcripts c.self.invariant.0 s place.0 high x
     (sym c.index_mut-so_far.ensures.value) c.reply_in.new.group (λ is. (c.in_err-reply.ensures.refused is).0)
     (λ g is. let so = c.in_err-reply.ensures.answered g is in (so.0, so.1, so.3))
     ∙ c.self.view_is)
@@ -85,15 +87,15 @@ returns-in_err-reply-clause-err g c =
 pub least_left_behind-self-inside-requires-clause-each : goal.least_left_behind-self-inside-requires-clause-each
 least_left_behind-self-inside-requires-clause-each g c =
     let i = c.self.inside in
-    let script = ap (λ (xs : List Session). length xs) c.as_slice.ensures in
-    let sessions = ap (λ (ys : List SessionSoFar). length ys) c.deref.ensures.value in
+    let script = ap (λ (xs : List Session). length xs) (c.as_slice.ensures ∙ ap (λ (script : Script). script.sessions) c.deref.ensures) in
+    let sessions = ap (λ (ys : List SessionSoFar). length ys) c.deref-2.ensures.value in
     omega (arith, script, sessions, c.self.invariant.0.kept.shaped.opens, length-map i.sessions.items open_seen, length-set i.sessions.items (c.args.session - 1) (record { replies = c.push_reserved.new.self; «open» = c.reply_in.new.group; latest = c.index_mut-so_far.result.now.latest }))
 
 pub least_left_behind-self-inside-requires-clause-place : goal.least_left_behind-self-inside-requires-clause-place
 least_left_behind-self-inside-requires-clause-place g c =
     let i = c.self.inside in
-    let place : IsPlace i.script c.args.session = subst (λ (m : Machine). IsPlace m.script c.args.session) (sym c.self.view_is) c.requires.place in
-    let sessions = ap (λ (ys : List SessionSoFar). length ys) c.deref.ensures.value in
+    let place : IsPlace (arc_value i.script) c.args.session = subst (λ (m : Machine). IsPlace m.script c.args.session) (sym c.self.view_is) c.requires.place in
+    let sessions = ap (λ (ys : List SessionSoFar). length ys) c.deref-2.ensures.value in
     omega (arith, place.0, place.1, sessions, c.self.invariant.0.kept.shaped.opens, length-map i.sessions.items open_seen, length-set i.sessions.items (c.args.session - 1) (record { replies = c.push_reserved.new.self; «open» = c.reply_in.new.group; latest = c.index_mut-so_far.result.now.latest }))
 
 pub invariant_of-self-2 : goal.invariant_of-self-2
@@ -101,18 +103,18 @@ invariant_of-self-2 g c =
     let i = c.self.inside in
     let s = c.args.session in
     let x : SessionSoFar = c.index_mut-so_far.result.now in
-    let m : Machine = seen g.N.Opened.logged i.script i.retries i.store i.locks i.began.items i.sessions.items i.history.items in
-    let place : IsPlace i.script s = subst (λ (m : Machine). IsPlace m.script s) (sym c.self.view_is) c.requires.place in
+    let m : Machine = seen g.N.Opened.logged (arc_value i.script) i.retries i.store i.locks i.began.items i.sessions.items i.history.items in
+    let place : IsPlace (arc_value i.script) s = subst (λ (m : Machine). IsPlace m.script s) (sym c.self.view_is) c.requires.place in
     let high : s ≤ length i.sessions.items = omega (arith, place.1, c.self.invariant.0.kept.shaped.opens, length-map i.sessions.items open_seen) in
     let can : CanExec m s g.N.Opened.opening c.args.bound.now = subst (λ (m : Machine). CanExec m s g.N.Opened.opening c.args.bound.now) (sym c.self.view_is) c.requires.can in
     let number : c.args.bound.now.catalog ≡ m.db.number = subst (λ (m : Machine). c.args.bound.now.catalog ≡ m.db.number) (sym c.self.view_is) c.requires.current in
     let moved = subst (λ (m : Machine). HaveMoved m.lazy.last (λ last. needed_for last.old last.migrate c.args.bound.now.action)) (sym c.self.view_is) c.requires.moved in
     let y : SessionSoFar = record { replies = c.push_reserved.new.self; «open» = c.reply_in.new.group; latest = x.latest } in
-    let goes_on = goes_on_at g.N.Opened.logged i.script i.retries i.store i.locks i.began.items i.sessions.items i.history.items s place.0 (exec_goes_on g.N.Opened.logged i.script i.retries i.store i.locks i.began.items i.sessions.items i.history.items c.self.invariant.0.kept s g.N.Opened.opening c.args.bound.now can) in
+    let goes_on = goes_on_at g.N.Opened.logged (arc_value i.script) i.retries i.store i.locks i.began.items i.sessions.items i.history.items s place.0 (exec_goes_on g.N.Opened.logged (arc_value i.script) i.retries i.store i.locks i.began.items i.sessions.items i.history.items c.self.invariant.0.kept s g.N.Opened.opening c.args.bound.now can) in
     let least =
-    least_behind i.script.sessions i.sessions.items (s - 1) y i.least_left c.self.invariant.1 goes_on
-    c.as_slice.ensures c.deref.ensures.value c.least_left_behind-self-inside.result c.least_left_behind-self-inside.ensures in (
-      replied_sound g.N.Opened.logged i.script i.retries i.store i.locks i.began.items i.sessions.items i.history i.commits i.transcripts c.self.invariant.0 s place.0 high x
+    least_behind (arc_value i.script).sessions i.sessions.items (s - 1) y i.least_left c.self.invariant.1 goes_on
+    (c.as_slice.ensures ∙ ap (λ (script : Script). script.sessions) c.deref.ensures) c.deref-2.ensures.value c.least_left_behind-self-inside.result c.least_left_behind-self-inside.ensures in (
+      replied_sound g.N.Opened.logged (arc_value i.script) i.retries i.store i.locks i.began.items i.sessions.items i.history i.commits i.transcripts c.self.invariant.0 s place.0 high x
           (sym c.index_mut-so_far.ensures.value) c.args.bound.now can number moved c.in_ok-reply.reply c.reply_in.new.group c.in_ok-reply.ensures.refused
           (λ g is. let so = c.in_ok-reply.ensures.answered g is in (so.0, so.1, so.2)) c.push_reserved.new.self c.push_reserved.ensures.items (omega (arith, c.push_reserved.ensures.capacity)),
       least,
@@ -123,15 +125,15 @@ returns-clause-replied g c =
     let i = c.self.inside in
     let s = c.args.session in
     let x : SessionSoFar = c.index_mut-so_far.result.now in
-    let m : Machine = seen g.N.Opened.logged i.script i.retries i.store i.locks i.began.items i.sessions.items i.history.items in
-    let place : IsPlace i.script s = subst (λ (m : Machine). IsPlace m.script s) (sym c.self.view_is) c.requires.place in
+    let m : Machine = seen g.N.Opened.logged (arc_value i.script) i.retries i.store i.locks i.began.items i.sessions.items i.history.items in
+    let place : IsPlace (arc_value i.script) s = subst (λ (m : Machine). IsPlace m.script s) (sym c.self.view_is) c.requires.place in
     let high : s ≤ length i.sessions.items = omega (arith, place.1, c.self.invariant.0.kept.shaped.opens, length-map i.sessions.items open_seen) in
     let can : CanExec m s g.N.Opened.opening c.args.bound.now = subst (λ (m : Machine). CanExec m s g.N.Opened.opening c.args.bound.now) (sym c.self.view_is) c.requires.can in
     let number : c.args.bound.now.catalog ≡ m.db.number = subst (λ (m : Machine). c.args.bound.now.catalog ≡ m.db.number) (sym c.self.view_is) c.requires.current in
     let moved = subst (λ (m : Machine). HaveMoved m.lazy.last (λ last. needed_for last.old last.migrate c.args.bound.now.action)) (sym c.self.view_is) c.requires.moved in
     let y : SessionSoFar = record { replies = c.push_reserved.new.self; «open» = c.reply_in.new.group; latest = x.latest } in
-    let next : Machine = seen g.N.Opened.logged i.script i.retries i.store i.locks i.began.items (slice_set i.sessions.items (s - 1) y) i.history.items in
+    let next : Machine = seen g.N.Opened.logged (arc_value i.script) i.retries i.store i.locks i.began.items (slice_set i.sessions.items (s - 1) y) i.history.items in
     subst (λ (m : Machine). HasReplied m s c.args.bound.now next) c.self.view_is
-    (replied g.N.Opened.logged i.script i.retries i.store i.locks i.began.items i.sessions.items i.history i.commits i.transcripts c.self.invariant.0 s place.0 high x
+    (replied g.N.Opened.logged (arc_value i.script) i.retries i.store i.locks i.began.items i.sessions.items i.history i.commits i.transcripts c.self.invariant.0 s place.0 high x
     (sym c.index_mut-so_far.ensures.value) c.args.bound.now can number moved c.in_ok-reply.reply c.reply_in.new.group c.in_ok-reply.ensures.refused
     (λ g is. let so = c.in_ok-reply.ensures.answered g is in (so.0, so.1, so.2)) c.push_reserved.new.self c.push_reserved.ensures.items (omega (arith, c.push_reserved.ensures.capacity)))

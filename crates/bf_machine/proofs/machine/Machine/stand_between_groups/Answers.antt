@@ -1,5 +1,6 @@
 -- At a COMMIT or ROLLBACK in no group, or before the next group.
 use Rattle.std.proofs.Common.{◌≡◌, ℕ, ◌+◌, ◌<◌, length, ap, ◌∙◌, arith, inr}
+use Rattle.bf_tree.specs.declared.script.Script.{Script}
 use Rattle.bf_sql.specs.Groups.{session_at}
 use Rattle.bf_machine.proofs.keeping.Standing.{ends_none, ends_one}
 use Rattle.bf_machine.proofs.keeping.Stands.{group_here, is_there, numbers, own_there, refuse_here, statement_there, told_count}
@@ -8,7 +9,7 @@ use Rattle.bf_machine.proofs.machine.Machine.stand_between_groups.Goals as goal
 pub stand_before_group-requires : goal.stand_before_group-requires
 stand_before_group-requires g c =
     let there = is_there c.self.invariant.0 c.self.view_is c.requires.place c.index.ensures in
-    let own = own_there there c.as_slice.ensures c.index-as_slice-place.is c.as_slice-statements.ensures in
+    let own = own_there there (c.as_slice.ensures ∙ ap (λ (script : Script). script.sessions) c.deref.ensures) c.index-as_slice-place.is c.as_slice-statements.ensures in
     let count : c.len-answered.result ≡ length c.index.result.now.replies.items =
     omega (arith, c.len-answered.ensures, c.index.result.now.replies.ok.0) in
     let told = told_count there c.requires.current c.requires.closed in
@@ -46,7 +47,7 @@ overflow_add-result g c =
 pub returns-in-Commit : goal.returns-in-Commit
 returns-in-Commit g c =
     let there = is_there c.self.invariant.0 c.self.view_is c.requires.place c.index.ensures in
-    let own = own_there there c.as_slice.ensures c.index-as_slice-place.is c.as_slice-statements.ensures in
+    let own = own_there there (c.as_slice.ensures ∙ ap (λ (script : Script). script.sessions) c.deref.ensures) c.index-as_slice-place.is c.as_slice-statements.ensures in
     let count : c.len-answered.result ≡ length c.index.result.now.replies.items =
     omega (arith, c.len-answered.ensures, c.index.result.now.replies.ok.0) in
     let told = told_count there c.requires.current c.requires.closed in

@@ -1,5 +1,6 @@
 -- At the next statement of the open group, or at its end.
-use Rattle.std.proofs.Common.{◌≡◌, ℕ, ◌+◌, ◌<◌, ◌≤◌, List, length, refl, sym, ap, subst, arith, inl}
+use Rattle.std.proofs.Common.{◌≡◌, ℕ, ◌+◌, ◌<◌, ◌≤◌, List, length, refl, sym, ap, subst, ◌∙◌, arith, inl}
+use Rattle.bf_tree.specs.declared.script.Script.{Script}
 use Rattle.bf_tree.specs.declared.statement.Statement.{Statement}
 use Rattle.bf_sql.specs.Groups.{session_at}
 use Rattle.bf_machine.specs.interleaving.Calls.{GoesOn}
@@ -10,7 +11,7 @@ use Rattle.bf_machine.proofs.machine.Machine.stand_in_group.Goals as goal
 pub bounds-statements-answered : goal.bounds-statements-answered
 bounds-statements-answered g c =
     let there = is_there c.self.invariant.0 c.self.view_is c.requires.place c.index-so_far.ensures in
-    let own = own_there there c.as_slice.ensures c.index-as_slice-place.is c.as_slice-statements.ensures in
+    let own = own_there there (c.as_slice.ensures ∙ ap (λ (script : Script). script.sessions) c.deref.ensures) c.index-as_slice-place.is c.as_slice-statements.ensures in
     let count : c.len-answered.result ≡ length c.index-so_far.result.now.replies.items =
     omega (arith, c.len-answered.ensures, c.index-so_far.result.now.replies.ok.0) in
     let limits = bounds there c.in-Some.group c.in-Some.is in
@@ -21,7 +22,7 @@ bounds-statements-answered g c =
 pub returns-in-Commit : goal.returns-in-Commit
 returns-in-Commit g c =
     let there = is_there c.self.invariant.0 c.self.view_is c.requires.place c.index-so_far.ensures in
-    let own = own_there there c.as_slice.ensures c.index-as_slice-place.is c.as_slice-statements.ensures in
+    let own = own_there there (c.as_slice.ensures ∙ ap (λ (script : Script). script.sessions) c.deref.ensures) c.index-as_slice-place.is c.as_slice-statements.ensures in
     let count : c.len-answered.result ≡ length c.index-so_far.result.now.replies.items =
     omega (arith, c.len-answered.ensures, c.index-so_far.result.now.replies.ok.0) in
     let less : length c.index-so_far.result.now.replies.items < c.in-Some.group.last = omega (arith, c.if-answered-group.true, count) in
@@ -31,7 +32,7 @@ returns-in-Commit g c =
 pub returns-in-Rollback : goal.returns-in-Rollback
 returns-in-Rollback g c =
     let there = is_there c.self.invariant.0 c.self.view_is c.requires.place c.index-so_far.ensures in
-    let own = own_there there c.as_slice.ensures c.index-as_slice-place.is c.as_slice-statements.ensures in
+    let own = own_there there (c.as_slice.ensures ∙ ap (λ (script : Script). script.sessions) c.deref.ensures) c.index-as_slice-place.is c.as_slice-statements.ensures in
     let count : c.len-answered.result ≡ length c.index-so_far.result.now.replies.items =
     omega (arith, c.len-answered.ensures, c.index-so_far.result.now.replies.ok.0) in
     let less : length c.index-so_far.result.now.replies.items < c.in-Some.group.last = omega (arith, c.if-answered-group.true, count) in
@@ -41,7 +42,7 @@ returns-in-Rollback g c =
 pub returns-in_default-statements : goal.returns-in_default-statements
 returns-in_default-statements g c =
     let there = is_there c.self.invariant.0 c.self.view_is c.requires.place c.index-so_far.ensures in
-    let own = own_there there c.as_slice.ensures c.index-as_slice-place.is c.as_slice-statements.ensures in
+    let own = own_there there (c.as_slice.ensures ∙ ap (λ (script : Script). script.sessions) c.deref.ensures) c.index-as_slice-place.is c.as_slice-statements.ensures in
     let count : c.len-answered.result ≡ length c.index-so_far.result.now.replies.items =
     omega (arith, c.len-answered.ensures, c.index-so_far.result.now.replies.ok.0) in
     let less : length c.index-so_far.result.now.replies.items < c.in-Some.group.last = omega (arith, c.if-answered-group.true, count) in
@@ -57,7 +58,7 @@ overflow_sub-group g c =
 pub bounds-statements-group : goal.bounds-statements-group
 bounds-statements-group g c =
     let there = is_there c.self.invariant.0 c.self.view_is c.requires.place c.index-so_far.ensures in
-    let own = own_there there c.as_slice.ensures c.index-as_slice-place.is c.as_slice-statements.ensures in
+    let own = own_there there (c.as_slice.ensures ∙ ap (λ (script : Script). script.sessions) c.deref.ensures) c.index-as_slice-place.is c.as_slice-statements.ensures in
     let limits = bounds there c.in-Some.group c.in-Some.is in
     let size : length c.as_slice-statements.result.now ≡ length (session_at c.args.self.now.script c.args.session).statements =
     ap (λ (ss : List Statement). length ss) own in
@@ -66,7 +67,7 @@ bounds-statements-group g c =
 pub returns-in-Begin : goal.returns-in-Begin
 returns-in-Begin g c =
     let there = is_there c.self.invariant.0 c.self.view_is c.requires.place c.index-so_far.ensures in
-    let own = own_there there c.as_slice.ensures c.index-as_slice-place.is c.as_slice-statements.ensures in
+    let own = own_there there (c.as_slice.ensures ∙ ap (λ (script : Script). script.sessions) c.deref.ensures) c.index-as_slice-place.is c.as_slice-statements.ensures in
     let count : c.len-answered.result ≡ length c.index-so_far.result.now.replies.items =
     omega (arith, c.len-answered.ensures, c.index-so_far.result.now.replies.ok.0) in
     let full : c.in-Some.group.last ≤ length c.index-so_far.result.now.replies.items = omega (arith, c.if-answered-group.false, count) in
@@ -76,7 +77,7 @@ returns-in-Begin g c =
 pub returns-in_default-statements-2 : goal.returns-in_default-statements-2
 returns-in_default-statements-2 g c =
     let there = is_there c.self.invariant.0 c.self.view_is c.requires.place c.index-so_far.ensures in
-    let own = own_there there c.as_slice.ensures c.index-as_slice-place.is c.as_slice-statements.ensures in
+    let own = own_there there (c.as_slice.ensures ∙ ap (λ (script : Script). script.sessions) c.deref.ensures) c.index-as_slice-place.is c.as_slice-statements.ensures in
     let count : c.len-answered.result ≡ length c.index-so_far.result.now.replies.items =
     omega (arith, c.len-answered.ensures, c.index-so_far.result.now.replies.ok.0) in
     let full : c.in-Some.group.last ≤ length c.index-so_far.result.now.replies.items = omega (arith, c.if-answered-group.false, count) in
