@@ -152,13 +152,11 @@ impl<N: Opened> Position<N> {
         requires { script.now ≡ N.script }
     {
         let place = self.place.checked_add(1)?;
-        let session = &script.sessions.as_slice()[self.session as usize - 1];
-        let statements = session.statements.as_slice();
-        let next = self.place as usize;
-        if self.is_left || next >= statements.len() || !is_select(&statements[next - 1]) {
-            return None;
-        }
-        if !is_select(&statements[next]) {
+        let sessions = script.sessions.as_slice();
+        let statements = sessions[self.session as usize - 1].statements.as_slice();
+        let here = self.place as usize - 1;
+        let next = statements.get(here + 1)?;
+        if self.is_left || !is_select(&statements[here]) || !is_select(next) {
             return None;
         }
         Some(Position {
@@ -366,7 +364,7 @@ impl<N: Opened> Request<N> {
         requires indexes { AreIndexesOf self.at.migration indexes.now }
         ensures { IfOk result (λ request. request.at ≡ self.at) }
     {
-        let Some(pass) = &self.at.migration else {
+        let Some(pass) = self.at.migration() else {
             return Ok(self);
         };
         let last = registry.migration(pass);

@@ -1,5 +1,5 @@
 -- The locks of its footprint may be asked for; what came of that is told.
-use Rattle.std.proofs.Common.{◌≡◌, ◌×◌, ℕ, List, [], Option, Some, sym, ap, subst, ◌∙◌, inl, inr}
+use Rattle.std.proofs.Common.{◌≡◌, ℕ, List, [], Option, Some, sym, ap, subst, ◌∙◌, inl, inr}
 use Rattle.std.specs.Prelude.{Ok}
 use Rattle.std.specs.Option.{option_map}
 use Rattle.bf_sql.specs.Footprints.{Lock}
