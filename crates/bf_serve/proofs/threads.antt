@@ -6,4 +6,5 @@ pub mod Going
 pub mod Making
 pub mod Moving
 pub mod Needing
+pub mod Running
 pub mod Standing

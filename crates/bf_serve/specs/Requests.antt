@@ -9,6 +9,7 @@ use Rattle.bf_tree.specs.Catalogs.{Catalog}
 use Rattle.bf_tree.specs.declared.bound.Bound.{Bound}
 use Rattle.bf_tree.specs.declared.script.Script.{Script}
 use Rattle.bf_tree.specs.declared.statement.Statement.{Statement}
+use Rattle.bf_tree.specs.declared.statement.Statement.TheVariants as statement
 use Rattle.bf_sql.specs.Bound.{catalog_of, without_rows}
 use Rattle.bf_sql.specs.Database.{IsDatabase}
 use Rattle.bf_sql.specs.Footprints.{Lock, footprint_of}
@@ -48,6 +49,11 @@ pub record IsPosition (registry : Registry) (script : Script) (p : Position) : T
   pub of : IsOf registry p.migration
   pub database : IsDatabase (without_rows p.catalog.value)
   pub limits : (s : Statement) → statement_at script p.session p.place ≡ Some s → KeepsPlanLimits p.catalog.value s
+
+-- a SELECT
+abbrev pub IsSelect : Statement → Type 0
+IsSelect (statement.Select list table condition) = Unit {0}
+IsSelect other = ⊥
 
 -- CANDIDATES: each granule that a statement needs which is bound at a position is among some
 abbrev pub AreCandidatesOf : Option (Where Migration) → Bound → List Granule → Type 0

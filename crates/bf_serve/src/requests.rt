@@ -1,13 +1,13 @@
 //! Statements that are made ready outside the lock: bound in the catalog of the moment at which their session stood there, with
 //! their locks and with what they need of the last migration.
 
-ghost use Rattle.std.specs.Prelude.{◌≡◌, IfOk, IfSome};
+ghost use Rattle.std.specs.Prelude.{◌≡◌, IfOk, IfSome, IsTrue};
 ghost use Rattle.std.specs.Option.{option_map};
 ghost use Rattle.bf_live.specs.Replies.{IsWellBound};
 ghost use Rattle.bf_store.specs.Stores.{AreIndexesOf, IsOf};
 ghost use Rattle.bf_transpose.specs.Covers.{IsCoverOf};
 ghost use Rattle.boxcar.specs.Table.{Shows};
-ghost use Rattle.bf_serve.specs.Requests.{AreCandidatesOf, IsPosition, IsPreparedAt, IsRequest};
+ghost use Rattle.bf_serve.specs.Requests.{AreCandidatesOf, IsPosition, IsPreparedAt, IsRequest, IsSelect};
 
 use bf_base::{Granule, Memory};
 use bf_image::{CatalogPass, MigrationPass, Registry, ValueIndexes};
@@ -151,24 +151,23 @@ impl<N: Opened> Position<N> {
     pub(crate) fn behind_select(&self, script: &Script) -> Option<Position<N>>
         requires { script.now ≡ N.script }
     {
-        let session = &script.sessions.as_slice()[self.session as usize - 1];
-        let statements = session.statements.as_slice();
-        let next = self.place as usize;
-        if self.is_left || next >= statements.len() {
+        let place = self.place.checked_add(1)?;
+        let sessions = script.sessions.as_slice();
+        let statements = sessions[self.session as usize - 1].statements.as_slice();
+        let here = self.place as usize - 1;
+        let next = statements.get(here + 1)?;
+        if self.is_left || !is_select(&statements[here]) || !is_select(next) {
             return None;
         }
-        match (&statements[next - 1], &statements[next]) {
-            (Statement::Select { .. }, Statement::Select { .. }) => Some(Position {
-                session: self.session,
-                place: self.place + 1,
-                in_block: self.in_block,
-                catalog: self.catalog.copy(),
-                migration: copy_of_pass(&self.migration),
-                is_left: false,
-                opened: PhantomData,
-            }),
-            _ => None,
-        }
+        Some(Position {
+            session: self.session,
+            place,
+            in_block: self.in_block,
+            catalog: self.catalog.copy(),
+            migration: copy_of_pass(&self.migration),
+            is_left: false,
+            opened: PhantomData,
+        })
     }
 }
 
@@ -222,6 +221,13 @@ impl<N: Opened> Request<N> {
     {
         self.candidates.as_ref()
     }
+}
+
+/// Whether a statement is a SELECT.
+fn is_select(statement: &Statement) -> bool
+    ensures { IsTrue result → IsSelect statement.now }
+{
+    matches!(statement, Statement::Select { .. })
 }
 
 /// Another pass of a migration, if there is one.
@@ -358,7 +364,7 @@ impl<N: Opened> Request<N> {
         requires indexes { AreIndexesOf self.at.migration indexes.now }
         ensures { IfOk result (λ request. request.at ≡ self.at) }
     {
-        let Some(pass) = &self.at.migration else {
+        let Some(pass) = self.at.migration() else {
             return Ok(self);
         };
         let last = registry.migration(pass);

@@ -16,6 +16,7 @@ use Rattle.bf_sql.specs.Footprints.{Lock, footprint_of}
 use Rattle.bf_sql.specs.Groups.{session_at}
 use Rattle.bf_sql.specs.History.{replayed}
 use Rattle.bf_sql.specs.migrations.Plans.{prepared_of}
+use Rattle.bf_locks.specs.Locks.{Locks}
 use Rattle.bf_live.specs.OpenGroups.{Holds, HoldsIn}
 use Rattle.bf_live.specs.Replies.{IsWellBound}
 use Rattle.bf_image.specs.Registries.{Registry}
@@ -23,10 +24,10 @@ use Rattle.bf_machine.specs.interleaving.Calls.{CanAsk, CanExec, CanRefuse, IsCo
 use Rattle.bf_machine.specs.interleaving.Events.{stands_inside}
 use Rattle.bf_machine.specs.interleaving.Kept.{IsKept}
 use Rattle.bf_machine.specs.interleaving.Machines.{Machine, Open, open_at}
-use Rattle.bf_machine.specs.interleaving.Serving.{IsBoundNext, is_in_block}
+use Rattle.bf_machine.specs.interleaving.Serving.{HasLocked, IsBoundNext, IsToLock, is_in_block}
 use Rattle.bf_machine.proofs.served.Binding.{has_keys, next_bound, prepared_well}
 use Rattle.bf_machine.proofs.served.Locking.{can_ask}
-use Rattle.bf_serve.specs.Requests.{HoldsAll, IsPreparedAt, IsRequest, Position, Request, StandsAt, statement_at}
+use Rattle.bf_serve.specs.Requests.{HoldsAll, HoldsIfOpen, IsPreparedAt, IsRequest, Position, Request, StandsAt, statement_at}
 
 -- an item that is got at a place is read there
 pub read_at : {X : Type 0} (xs : List X) (i : ℕ) (x : X) → slice_get xs i ≡ Some x → slice_index_or xs i x ≡ x
@@ -60,6 +61,13 @@ module _ {start : Database} (registry : Registry) (m : Machine) (kept : IsKept s
     | inr refused ↦ absurd (let clash : None ≡ Some o = sym refused.1.closed ∙ found in cc)
   ]
 
+  -- and all of them
+  pub may_ask_all : (o : Open) → open_at m r.at.session ≡ Some o → (p : Open) × IsToLock m r.at.session p r.locks
+  may_ask_all o found = elim bound_next as (λ _. (p : Open) × IsToLock m r.at.session p r.locks) [
+    | inl next ↦ (next.0, subst (IsToLock m r.at.session next.0) (sym is.locks) next.1.to_lock)
+    | inr refused ↦ absurd (let clash : None ≡ Some o = sym refused.1.closed ∙ found in cc)
+  ]
+
   -- and where they are held, or no group is open, it may have its reply
   held_by : (o : Open) → open_at m r.at.session ≡ Some o → HoldsAll m r → Holds m.locks o.start (footprint_of r.bound)
   held_by o found all = subst (λ (fs : List Lock). Holds m.locks o.start fs) is.locks
@@ -82,7 +90,7 @@ module _ {start : Database} (registry : Registry) (m : Machine) (kept : IsKept s
         held = held;
       }
 
-  pub may_run : ((o : Open) → open_at m r.at.session ≡ Some o → HoldsAll m r) → CanExec m r.at.session start r.bound
+  pub may_run : HoldsIfOpen m r → CanExec m r.at.session start r.bound
   may_run all = elim bound_next as (λ _. CanExec m r.at.session start r.bound) [
     | inl next ↦ inl (exec_next next.0 next.1 (held_by next.0 next.1.to_lock.is (all next.0 next.1.to_lock.is)))
     | inr refused ↦ inr refused
@@ -95,3 +103,16 @@ group_at m s n is = of (open_at m s) is
     of : (some : Option Open) → option_map (λ (o : Open). o.start) some ≡ Some n → (o : Open) × (some ≡ Some o)
     of None clash = absurd cc
     of (Some o) same = (o, refl)
+
+-- locks that a group has come to hold are held of the request that they are of
+pub held_if_locked : (m next : Machine) (r : Request) → HasLocked m r.at.session r.locks next → HoldsIfOpen next r
+held_if_locked m next r locked o found =
+    let now : open_at next r.at.session ≡ open_at m r.at.session = ap (λ (k : Machine). open_at k r.at.session) locked.3 in
+    let same : Some o ≡ Some locked.0 = sym found ∙ (now ∙ locked.1) in
+    λ k d within. subst (λ (some : Option Open). IsSomeAnd some (λ (p : Open). HoldsIn next.locks p.start (slice_index_or r.locks k d).0 (slice_index_or r.locks k d).1)) (sym found)
+    (subst (λ (l : Locks). HoldsIn l o.start (slice_index_or r.locks k d).0 (slice_index_or r.locks k d).1) (sym (ap (λ (n : Machine). n.locks) locked.3))
+    (subst (λ (n : ℕ). HoldsIn locked.2 n (slice_index_or r.locks k d).0 (slice_index_or r.locks k d).1) (sym (ap (λ (p : Open). p.start) (same_Some o locked.0 same))) (locked.4 k d within)))
+
+-- and nothing is to be held of one without locks
+pub held_if_none : (m : Machine) (r : Request) → r.locks ≡ [] → HoldsIfOpen m r
+held_if_none m r none o found = λ k d within. absurd (omega (arith, ap (λ (fs : List Lock). length fs) none, within))

@@ -22,7 +22,7 @@ module _ (registry : Registry) (script : Script) (p : Position) (is : IsPosition
   session_within = let sizes : length sessions ≡ length script.sessions = ap length all in omega (arith, is.session.0, is.session.1, sizes)
 
   module _ (session : Session) (own : session ≡ slice_index_or sessions (p.session - 1) session) (statements : List Statement) (texts : statements ≡ session.statements) where
-    texts_are : statements ≡ (session_at script p.session).statements
+    pub texts_are : statements ≡ (session_at script p.session).statements
     texts_are =
         texts ∙ ap (λ (x : Session). x.statements)
         (own ∙ (ap (λ (xs : List Session). slice_index_or xs (p.session - 1) session) all ∙ session_read script p.session is.session session))

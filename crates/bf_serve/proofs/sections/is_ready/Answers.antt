@@ -20,6 +20,6 @@ returns g c = λ yes.
     lent_then value c.as_ref.result ∙ ap values (lent c.as_ref.result ∙ (c.as_ref.ensures.value ∙ c.migration-pass.ensures.pass)) in
     record {
       stands = subst (StandsAt m) c.at-at.ensures.at (c.stands_at.ensures c.if-not-stands_at.false);
-      migration = theirs ∙ (c.are_one.ensures c.if-not-are_one.false ∙ ours);
-      held = c.holds_if_open.ensures yes;
+      migration = theirs ∙ (c.are_one.ensures yes ∙ ours);
+      held = c.requires.held;
     }

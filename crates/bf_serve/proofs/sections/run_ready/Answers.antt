@@ -30,8 +30,8 @@ pub returns-in-Replied-clause-leaves : goal.returns-in-Replied-clause-leaves
 returns-in-Replied-clause-leaves g c =
     leaves_replied g.N.Opened.opening c.args.machine.now c.exec.new.self c.session-session.result c.bound.result.now (c.exec.ensures.replied (c.in_ok-exec.was ∙ ap Ok c.in-Replied.is))
 
-pub returns-in-Need-clause-needs : goal.returns-in-Need-clause-needs
-returns-in-Need-clause-needs g c =
+pub returns-in-Need-clause-ran : goal.returns-in-Need-clause-ran
+returns-in-Need-clause-ran g c =
     let m : Machine = c.args.machine.now in
     let r : Request = c.args.request.now in
     let own_script : m.script ≡ g.N.Opened.script = sym c.script.ensures.script ∙ c.script.ensures.opened in

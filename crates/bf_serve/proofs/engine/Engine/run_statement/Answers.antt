@@ -2,6 +2,7 @@ use Rattle.std.proofs.Common.{◌≡◌, sym, subst, ◌∙◌}
 use Rattle.bf_tree.specs.declared.script.Script.{Script}
 use Rattle.bf_machine.specs.interleaving.Calls.{IsPlace}
 use Rattle.bf_serve.proofs.threads.Going.{goes_leaving}
+use Rattle.bf_serve.proofs.threads.Running.{needed_if_ok}
 use Rattle.bf_serve.proofs.engine.Engine.run_statement.Goals as goal
 
 pub run_statement-requires-clause-place : goal.run_statement-requires-clause-place
@@ -17,3 +18,6 @@ invariant_of-self g c =
     let goes = goes_leaving g.J.Journal.Answers g.N.Opened.opening g.N.Beginning.begins g.N.Opened.registry m c.self.inside.journal c.self.inside.catalog i.0 i.3
     c.run_statement.new.machine c.run_statement.ensures.leaves c.run_statement.ensures.present in
     (goes.0, i.1, i.2, goes.1)
+
+pub returns : goal.returns
+returns g c = needed_if_ok g.N.Opened.opening c.self.inside.machine c.args.request.now c.run_statement.new.machine c.run_statement.result c.run_statement.ensures.ran

@@ -10,14 +10,14 @@ use Rattle.bf_serve.specs.Requests.{AreNeededOf, Position}
 use Rattle.bf_serve.specs.Sections.{AreNeededIfServed}
 use Rattle.bf_serve.specs.Steps.{AreToMove}
 use Rattle.bf_serve.specs.declared.engine.Served.{Served}
-use Rattle.bf_serve.proofs.shared.Shared.serve.Goals as goal
+use Rattle.bf_serve.proofs.shared.Shared.step_of.Goals as goal
 
 pub returns-in-Need-Some : goal.returns-in-Need-Some
 returns-in-Need-Some g c =
     let r = c.args.request.now in
     let pass = c.in-Need-Some.pass.now in
     let granules = c.in-Need-Some.granules.items in
-    let needed : AreNeededOf r granules = subst (λ (s : Served). AreNeededIfServed r s) c.in-Need-Some.is-0 c.in_ok-served.ensures in
+    let needed : AreNeededOf r granules = subst (λ (s : Served). AreNeededIfServed r s) c.in-Need-Some.is-0 c.requires in
     let same : Some pass ≡ r.at.migration = c.in-Need-Some.ensures.pass ∙ ap (λ (p : Position). p.migration) c.at.ensures.at in
     let of : AreGranules (migration_of pass.value []) granules × IsTrue (rises granule_cmp granules) =
     subst (λ (o : Option (Where Kept)). IfSome o (λ p. AreGranules (migration_of p.value []) granules × IsTrue (rises granule_cmp granules))) (sym same) needed.0 in
