@@ -1,12 +1,10 @@
 -- What has moved of a machine's last migration, by its pass; and granules of the migration of a seat.
-use Rattle.std.proofs.Common.{◌≡◌, ◌≢◌, ℕ, ◌≤◌, ◌==◌, false, List, [], ◌∷◌, length, Option, Some, None, refl, sym, ap, subst, ◌∙◌, arith}
-use Rattle.std.specs.Prelude.{IsTrue, slice_get}
+use Rattle.std.proofs.Common.{◌≡◌, ◌≢◌, ℕ, ◌≤◌, ◌==◌, false, List, [], ◌∷◌, length, Option, Some, None, refl, sym, subst, arith}
 use Rattle.std.specs.Option.{option_map}
 use Rattle.std.proofs.lemmas.Bool.Decides.{nat_tests}
 use Rattle.std.proofs.lemmas.Option.{none-some, same_Some}
 use Rattle.boxcar.specs.Table.{Where}
 use Rattle.bf_base.specs.declared.granule.Granule.{Granule}
-use Rattle.bf_drive.specs.Lists.{AreDifferent}
 use Rattle.bf_image.specs.declared.migration.Migration.{Migration as Kept}
 use Rattle.bf_sql.specs.Database.{Database}
 use Rattle.bf_sql.specs.migrations.Lazy.{Migration}

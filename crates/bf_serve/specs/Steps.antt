@@ -1,5 +1,5 @@
 -- What the turn of a session, and a worker's look ahead, hand out.
-use Rattle.std.specs.Prelude.{◌≡◌, ◌≢◌, ℕ, ◌+◌, ◌≤◌, List, [], length, Option, Some, IfSome, IsTrue, slice_get}
+use Rattle.std.specs.Prelude.{◌≢◌, List, [], IsTrue}
 use Rattle.boxcar.specs.Table.{Shows, Where}
 use Rattle.bf_base.specs.declared.granule.Granule.{Granule}
 use Rattle.bf_base.specs.Lists.{rises}

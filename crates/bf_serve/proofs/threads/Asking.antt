@@ -1,7 +1,7 @@
 -- A statement that was made ready is the machine's next one, where the machine still stands there.
-use Rattle.std.proofs.Common.{◌≡◌, ◌⊎◌, ℕ, zero, suc, ◌+◌, ◌-◌, ◌<◌, arith, Bool, List, [], ◌∷◌, length, take, Option, Some, None, refl, sym, ap, subst, ◌∙◌, inl, inr}
-use Rattle.std.specs.Prelude.{Contains, IfSome, IsSomeAnd, slice_get}
-use Rattle.std.specs.List.{All, slice_index_or}
+use Rattle.std.proofs.Common.{◌≡◌, ◌⊎◌, ℕ, zero, suc, ◌-◌, ◌<◌, arith, Bool, List, [], ◌∷◌, length, take, Option, Some, None, refl, sym, ap, subst, ◌∙◌, inl, inr}
+use Rattle.std.specs.Prelude.{Contains, IsSomeAnd, slice_get}
+use Rattle.std.specs.List.{slice_index_or}
 use Rattle.std.specs.Option.{option_map}
 use Rattle.std.proofs.Math.Seq.{take-length}
 use Rattle.std.proofs.lemmas.Option.{same_Some}
@@ -9,7 +9,6 @@ use Rattle.bf_tree.specs.Catalogs.{Catalog}
 use Rattle.bf_tree.specs.declared.bound.Bound.{Bound}
 use Rattle.bf_tree.specs.declared.history.Entry.{Entry}
 use Rattle.bf_tree.specs.declared.script.Script.{Script}
-use Rattle.bf_tree.specs.declared.statement.Statement.{Statement}
 use Rattle.bf_sql.specs.Bound.{catalog_of, without_rows}
 use Rattle.bf_sql.specs.Database.{Database, IsDatabase}
 use Rattle.bf_sql.specs.Footprints.{Lock, footprint_of}
@@ -20,14 +19,14 @@ use Rattle.bf_locks.specs.Locks.{Locks}
 use Rattle.bf_live.specs.OpenGroups.{Holds, HoldsIn}
 use Rattle.bf_live.specs.Replies.{IsWellBound}
 use Rattle.bf_image.specs.Registries.{Registry}
-use Rattle.bf_machine.specs.interleaving.Calls.{CanAsk, CanExec, CanRefuse, IsCovered, IsPlace, IsToExec}
+use Rattle.bf_machine.specs.interleaving.Calls.{CanAsk, CanExec, CanRefuse, IsToExec}
 use Rattle.bf_machine.specs.interleaving.Events.{stands_inside}
 use Rattle.bf_machine.specs.interleaving.Kept.{IsKept}
 use Rattle.bf_machine.specs.interleaving.Machines.{Machine, Open, open_at}
 use Rattle.bf_machine.specs.interleaving.Serving.{HasLocked, IsBoundNext, IsToLock, is_in_block}
-use Rattle.bf_machine.proofs.served.Binding.{has_keys, next_bound, prepared_well}
+use Rattle.bf_machine.proofs.served.Binding.{next_bound, prepared_well}
 use Rattle.bf_machine.proofs.served.Locking.{can_ask}
-use Rattle.bf_serve.specs.Requests.{HoldsAll, HoldsIfOpen, IsPreparedAt, IsRequest, Position, Request, StandsAt, statement_at}
+use Rattle.bf_serve.specs.Requests.{HoldsAll, HoldsIfOpen, IsPreparedAt, IsRequest, Position, Request, StandsAt}
 
 -- an item that is got at a place is read there
 pub read_at : {X : Type 0} (xs : List X) (i : ℕ) (x : X) → slice_get xs i ≡ Some x → slice_index_or xs i x ≡ x

@@ -1,8 +1,6 @@
 -- The catalog of a machine stays but where a change of the schema is committed.
-use Rattle.std.proofs.Common.{◌≡◌, ◌⊎◌, ℕ, ◌+◌, Bool, List, Option, Some, None, refl, sym, ap, subst, ◌∙◌, inl, inr, arith}
-use Rattle.std.specs.Prelude.{IfSome, Result, Ok, Err, IfOk, OnErr}
-use Rattle.boxcar.specs.Table.{Shows, Where}
-use Rattle.bf_base.specs.declared.memory.Memory.{Memory}
+use Rattle.std.proofs.Common.{◌≡◌, ℕ, Option, Some, None, refl, sym, ap, ◌∙◌, inl, inr, arith}
+use Rattle.boxcar.specs.Table.{Where}
 use Rattle.bf_tree.specs.Catalogs.{Catalog}
 use Rattle.bf_tree.specs.declared.bound.Bound.{Bound}
 use Rattle.bf_locks.specs.declared.answer.LockAnswer.{LockAnswer}

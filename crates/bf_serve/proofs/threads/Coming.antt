@@ -1,5 +1,5 @@
 -- Further events, behind those before.
-use Rattle.std.proofs.Common.{◌≡◌, ◌≢◌, ℕ, Result, Ok, Err, IfOk, OnErr, refl, sym, ap, subst, inl, inr}
+use Rattle.std.proofs.Common.{◌≡◌, ◌≢◌, ℕ, Result, Ok, Err, IfOk, OnErr, refl, sym, ap, subst, inl}
 use Rattle.bf_base.specs.declared.memory.Memory.{Memory}
 use Rattle.bf_sql.specs.Database.{Database}
 use Rattle.bf_sql.specs.migrations.Lazy.{LazyState}

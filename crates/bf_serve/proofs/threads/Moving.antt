@@ -1,5 +1,5 @@
 -- A move of granules in a section: it is kept and made, or nothing is, or the journal refuses it by a cause, which may end a group.
-use Rattle.std.proofs.Common.{◌≡◌, ◌⊎◌, ℕ, List, [], refl, sym, ap, subst, ◌∙◌, inl, inr}
+use Rattle.std.proofs.Common.{◌≡◌, ◌⊎◌, ℕ, List, sym, ap, subst, ◌∙◌, inl, inr}
 use Rattle.std.specs.Prelude.{Bool, Result, Ok, Err}
 use Rattle.bf_base.specs.declared.granule.Granule.{Granule}
 use Rattle.bf_sql.specs.Bound.{catalog_of}

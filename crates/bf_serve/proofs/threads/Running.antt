@@ -1,5 +1,5 @@
 -- What came of a statement that was made ready.
-use Rattle.std.proofs.Common.{◌≡◌, Result, Ok, Err, IfOk}
+use Rattle.std.proofs.Common.{Result, Ok, Err, IfOk}
 use Rattle.bf_base.specs.declared.memory.Memory.{Memory}
 use Rattle.bf_sql.specs.Database.{Database}
 use Rattle.bf_machine.specs.interleaving.Machines.{Machine}

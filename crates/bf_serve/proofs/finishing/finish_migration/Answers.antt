@@ -1,11 +1,10 @@
 -- All that is left has moved, where the journal has not stopped.
-use Rattle.std.proofs.Common.{◌≡◌, ◌⊎◌, List, [], sym, ap, subst, ◌∙◌, inl, inr}
+use Rattle.std.proofs.Common.{◌≡◌, ◌⊎◌, List, sym, ap, ◌∙◌, inl, inr}
 use Rattle.std.specs.Prelude.{Result, Ok, Err, OnOk}
 use Rattle.bf_base.specs.declared.granule.Granule.{Granule}
 use Rattle.bf_image.specs.Migrations.{old_of, value_indexes}
 use Rattle.bf_image.specs.declared.migration.Migration.{Migration as Kept}
 use Rattle.bf_sql.specs.migrations.Granules.{granules_of}
-use Rattle.bf_sql.specs.migrations.Lazy.{pending_of}
 use Rattle.bf_store.specs.States.{to_move}
 use Rattle.bf_machine.specs.interleaving.Journals.{nothing_yet}
 use Rattle.bf_machine.specs.interleaving.Machines.{Machine}

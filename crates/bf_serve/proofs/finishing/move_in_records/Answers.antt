@@ -1,5 +1,5 @@
 -- All of them have moved, or a first part, behind which the journal has stopped or memory has run out.
-use Rattle.std.proofs.Common.{◌≡◌, ap, inl, inr, subst, ◌∙◌}
+use Rattle.std.proofs.Common.{ap, inl, inr, subst, ◌∙◌}
 use Rattle.std.specs.Prelude.{Result, Err}
 use Rattle.bf_machine.specs.declared.journal.KeepError.{KeepError}
 use Rattle.bf_machine.specs.interleaving.Journals.{KeepsOrIsRefused}

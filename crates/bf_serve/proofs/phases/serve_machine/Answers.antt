@@ -1,5 +1,5 @@
 -- What comes out of the lock has come from the beginning of the run, and what is served behind it, and moved behind that, comes behind that.
-use Rattle.std.proofs.Common.{◌≡◌, sym, subst}
+use Rattle.std.proofs.Common.{◌≡◌, subst}
 use Rattle.std.specs.Prelude.{Result, Ok, Err, OnOk}
 use Rattle.bf_tree.specs.declared.script.Script.{Script}
 use Rattle.bf_machine.specs.interleaving.Calls.{IsPlace}

@@ -1,7 +1,6 @@
 -- The locks of its footprint may be asked for; what came of that is told.
-use Rattle.std.proofs.Common.{◌≡◌, ℕ, List, [], Option, Some, sym, ap, subst, ◌∙◌, inl, inr}
+use Rattle.std.proofs.Common.{◌≡◌, ℕ, List, Some, sym, ap, subst, ◌∙◌, inr}
 use Rattle.std.specs.Prelude.{Ok}
-use Rattle.std.specs.Option.{option_map}
 use Rattle.bf_sql.specs.Footprints.{Lock}
 use Rattle.bf_tree.specs.declared.script.Script.{Script}
 use Rattle.bf_machine.specs.declared.stand.Turn.{Turn}

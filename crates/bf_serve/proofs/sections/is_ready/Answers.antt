@@ -1,11 +1,11 @@
 -- Each test tells its part.
-use Rattle.std.proofs.Common.{◌≡◌, Option, sym, ap, subst, ◌∙◌}
+use Rattle.std.proofs.Common.{◌≡◌, sym, ap, subst, ◌∙◌}
 use Rattle.std.specs.Option.{option_map}
 use Rattle.boxcar.specs.Table.{Where}
 use Rattle.bf_image.specs.declared.migration.Migration.{Migration as Kept}
 use Rattle.bf_machine.specs.interleaving.Machines.{Machine}
 use Rattle.bf_machine.proofs.served.Needs.{lent, lent_then}
-use Rattle.bf_serve.specs.Requests.{IsReady, Position, Request, StandsAt}
+use Rattle.bf_serve.specs.Requests.{Position, Request, StandsAt}
 use Rattle.bf_serve.proofs.threads.Needing.{values}
 use Rattle.bf_serve.proofs.sections.is_ready.Goals as goal
 

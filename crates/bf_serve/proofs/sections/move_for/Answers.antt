@@ -1,5 +1,5 @@
 -- A move is kept and made, or the journal refuses it, and the group that needs it ends.
-use Rattle.std.proofs.Common.{◌≡◌, ◌≢◌, ◌⊎◌, ℕ, Bool, true, false, List, [], Option, Some, option_map, inl, inr, ap, sym, subst, ◌∙◌}
+use Rattle.std.proofs.Common.{◌≡◌, ◌≢◌, ◌⊎◌, ℕ, Bool, true, false, List, [], Some, option_map, inl, inr, ap, sym, subst, ◌∙◌}
 use Rattle.std.specs.Prelude.{Result, Ok, Err}
 use Rattle.boxcar.specs.Table.{Where}
 use Rattle.bf_image.specs.declared.migration.Migration.{Migration}

@@ -1,5 +1,5 @@
 -- What is ready may have its reply; and what it needs is what the machine tells.
-use Rattle.std.proofs.Common.{◌≡◌, ℕ, List, Option, sym, ap, subst, ◌∙◌}
+use Rattle.std.proofs.Common.{◌≡◌, ℕ, sym, ap, subst, ◌∙◌}
 use Rattle.std.specs.Prelude.{Ok}
 use Rattle.std.specs.Option.{option_map}
 use Rattle.bf_tree.specs.declared.bound.Bound.{Bound}

@@ -1,5 +1,5 @@
 -- Its locks are asked for, and where they are held it is run.
-use Rattle.std.proofs.Common.{◌≡◌, sym, subst, inl, inr}
+use Rattle.std.proofs.Common.{sym, subst, inl, inr}
 use Rattle.bf_tree.specs.declared.script.Script.{Script}
 use Rattle.bf_machine.specs.interleaving.Calls.{IsPlace}
 use Rattle.bf_machine.specs.interleaving.Machines.{Machine}
@@ -7,7 +7,7 @@ use Rattle.bf_machine.proofs.served.Keeping.{keeps_both}
 use Rattle.bf_serve.specs.Requests.{HoldsIfOpen, Request}
 use Rattle.bf_serve.specs.Sections.{IsAskedAs}
 use Rattle.bf_serve.specs.declared.sections.Asked.{Asked}
-use Rattle.bf_serve.specs.declared.sections.Asked.TheVariants.{Died, Granted, Waits}
+use Rattle.bf_serve.specs.declared.sections.Asked.TheVariants.{Granted}
 use Rattle.bf_serve.proofs.threads.Asking.{held_if_locked, held_if_none}
 use Rattle.bf_serve.proofs.threads.Running.{ran_if_ok}
 use Rattle.bf_serve.proofs.sections.run_statement.Goals as goal

@@ -1,5 +1,5 @@
 -- A migration has few units.
-use Rattle.std.proofs.Common.{◌≡◌, ◌≤◌, List, length, ap, arith}
+use Rattle.std.proofs.Common.{List, length, ap, arith}
 use Rattle.bf_tree.specs.declared.plan.Unit.{Unit as Planned}
 use Rattle.bf_image.proofs.planning.Units.{units_few}
 use Rattle.bf_serve.proofs.ahead.Cursor.place.Goals as goal

@@ -1,5 +1,5 @@
 -- The cover is that of the statement, by the old rows of the position's migration.
-use Rattle.std.proofs.Common.{◌≡◌, List, Option, Some, sym, ap, subst, ◌∙◌}
+use Rattle.std.proofs.Common.{◌≡◌, Option, sym, ap, subst, ◌∙◌}
 use Rattle.boxcar.specs.Table.{Where}
 use Rattle.bf_image.specs.Migrations.{IsLawfulMigration, value_indexes}
 use Rattle.bf_image.specs.declared.migration.Migration.{Migration}

@@ -1,5 +1,5 @@
 -- What a statement needs is of the migration at its position.
-use Rattle.std.proofs.Common.{◌≡◌, List, [], Option, Some, sym, ap, subst, ◌∙◌}
+use Rattle.std.proofs.Common.{◌≡◌, [], Option, Some, sym, ap, subst, ◌∙◌}
 use Rattle.std.specs.Prelude.{IfSome, IsTrue}
 use Rattle.boxcar.specs.Table.{Shows, Where}
 use Rattle.bf_base.specs.Lists.{rises}
