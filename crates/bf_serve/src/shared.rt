@@ -22,7 +22,7 @@ use std::alloc::Global;
 use std::sync::{Arc, Condvar, Mutex, MutexGuard, Wait};
 
 /// How many statements of a session have their replies in one section, at most.
-const MOST_TOGETHER: usize = 8;
+const MOST_TOGETHER: usize = 32;
 
 /// A machine beside its journal under a lock, and what the threads of a run read without it.
 pub struct Shared<'r, 'g, N: Beginning<J>, J: Journal, R: Wait, G: Gate> {
