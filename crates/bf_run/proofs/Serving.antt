@@ -4,8 +4,7 @@ use Rattle.std.specs.Prelude.{Result, Ok, Err, IfOk, OnErr, OnOk}
 use Rattle.std.proofs.lemmas.Bool.{cases_lt}
 use Rattle.std.proofs.lemmas.Result.{IfOk-at_ok}
 use Rattle.bf_disk.specs.declared.disk.Disk.{Ghosts}
-use Rattle.bf_journal.specs.Leaving.{LeavesAlone}
-use Rattle.bf_journal.specs.States.{IsReady, StandsOn}
+use Rattle.bf_journal.specs.States.{IsReady}
 use Rattle.bf_log.specs.Append.{disk_of, standing_of}
 use Rattle.bf_log.specs.declared.log.Standing.TheVariants.{Spent}
 use Rattle.bf_machine.specs.declared.machine.Parts.{Parts}
@@ -13,8 +12,6 @@ use Rattle.bf_machine.specs.interleaving.Kept.{IsKept, fresh}
 use Rattle.bf_machine.specs.interleaving.Machines.{Machine, transcripts_of}
 use Rattle.bf_machine.proofs.served.Ending.{reached_script}
 use Rattle.bf_machine.proofs.served.Keeping.{keeps_reach}
-use Rattle.bf_recover.specs.Legal.{first_state}
-use Rattle.bf_recover.specs.Steps.{StepsTo}
 use Rattle.bf_sql.specs.Database.{Database}
 use Rattle.bf_sql.specs.migrations.Lazy.{sweep_of, view_of}
 use Rattle.bf_store.specs.Stores.{Store}

@@ -9,7 +9,7 @@ use Rattle.bf_tree.specs.declared.history.Sweep.{Sweep}
 use Rattle.bf_tree.specs.declared.history.Sweep.TheVariants.{Complete, Running}
 use Rattle.bf_sql.specs.Database.{Database, table_rows}
 use Rattle.bf_sql.specs.migrations.Granules.{granules_of, same_granule}
-use Rattle.bf_sql.specs.migrations.Lazy.{LazyState, Migration, anchored, is_done, moved, pending, pending_of, sweep_by, sweep_of, view_of}
+use Rattle.bf_sql.specs.migrations.Lazy.{LazyState, Migration, anchored, is_done, moved, pending_of, sweep_by, sweep_of, view_of}
 use Rattle.bf_image.proofs.finding.Found.{same_granule-itself}
 use Rattle.bf_image.proofs.items.Lists.{has_own}
 use Rattle.bf_image.specs.Migrations.{old_of}

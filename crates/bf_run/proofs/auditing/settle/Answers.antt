@@ -1,5 +1,5 @@
 -- The live tables are then the database that was seen.
-use Rattle.std.proofs.Common.{◌≡◌, List, ap, sym, ◌∙◌}
+use Rattle.std.proofs.Common.{List, ap, sym, ◌∙◌}
 use Rattle.bf_base.specs.declared.granule.Granule.{Granule}
 use Rattle.bf_image.specs.Migrations.{old_of}
 use Rattle.bf_image.specs.declared.migration.Migration.{Migration}

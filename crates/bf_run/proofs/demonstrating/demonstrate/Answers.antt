@@ -1,4 +1,4 @@
-use Rattle.std.proofs.Common.{◌≡◌, sym, subst}
+use Rattle.std.proofs.Common.{sym, subst}
 use Rattle.std.proofs.lemmas.Result.{IfOk-weaker}
 use Rattle.bf_machine.specs.interleaving.Kept.{IsWithinLimits}
 use Rattle.bf_run.specs.Creating.{shelf_of}

@@ -1,4 +1,4 @@
-use Rattle.std.proofs.Common.{◌≡◌, Some, ap, subst, ◌∙◌}
+use Rattle.std.proofs.Common.{Some, ap, subst, ◌∙◌}
 use Rattle.bf_demo.specs.Shown.{shown_of}
 use Rattle.bf_run.specs.Creating.{shelf_of}
 use Rattle.bf_run.specs.Outcome.{ComesOfLog, HoldsAsked}

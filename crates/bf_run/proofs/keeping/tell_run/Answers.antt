@@ -4,7 +4,6 @@ use Rattle.std.proofs.lemmas.Result.{IfOk-at_ok}
 use Rattle.bf_sql.specs.migrations.Lazy.{view_of}
 use Rattle.bf_machine.specs.interleaving.Kept.{IsKept, IsOpening, fresh}
 use Rattle.bf_serve.specs.Come.{LeavesParts}
-use Rattle.bf_run.specs.Crashing.{KeepsOnLog}
 use Rattle.bf_run.specs.Words.{asked_options}
 use Rattle.bf_run.proofs.Kept.{not_spent_if, recovered}
 use Rattle.bf_run.proofs.Untold.{broken_off, kept_behind}

@@ -28,14 +28,14 @@ pub of-store-requires : goal.of-store-requires
 of-store-requires g c = subst (λ (db : Database). HasNarrowTables (catalog_of db)) (sym c.new.ensures) refl
 
 -- no row is to come, so what is seen are the live tables
-pub new-requires-2-clause-opening : goal.new-requires-2-clause-opening
-new-requires-2-clause-opening g c =
+pub new-requires-3-clause-opening : goal.new-requires-3-clause-opening
+new-requires-3-clause-opening g c =
     ap (λ (s : Store). view_of s.lazy) c.of-store.ensures
     ∙ ap (λ (db : Database). view_of (record { live = db; last = None; records = 0 })) c.new.ensures
     ∙ sym c.requires.opening
 
-pub new-requires-2-clause-registry : goal.new-requires-2-clause-registry
-new-requires-2-clause-registry g c = subst (λ (s : Store). IsOf g.N.Opened.registry s.migration) (sym c.of-store.ensures) tt
+pub new-requires-3-clause-registry : goal.new-requires-3-clause-registry
+new-requires-3-clause-registry g c = subst (λ (s : Store). IsOf g.N.Opened.registry s.migration) (sym c.of-store.ensures) tt
 
 pub in_order-requires-clause-logged : goal.in_order-requires-clause-logged
 in_order-requires-clause-logged g c = sym c.requires.unlogged
@@ -62,7 +62,8 @@ returns g c =
     let law = c.sessions_in_sequence_run_in_order.ensures in
     let served = c.in_ok-in_order.ensures in
     let last : store.lazy.last ≡ None = ap (λ (s : Store). s.lazy.last) c.of-store.ensures in
-    let new : m ≡ fresh false store script 0 = c.in_ok-machine.ensures ∙ ap (λ (logged : Bool). fresh logged store script 0) c.requires.unlogged in
+    let new : m ≡ fresh false store script 0 =
+    c.in_ok-machine.ensures ∙ (ap (λ (text : Script). fresh g.N.Opened.logged store text 0) c.in_ok-script.ensures.ok ∙ ap (λ (logged : Bool). fresh logged store script 0) c.requires.unlogged) in
     let sequence : IsInSequence opening m = subst (IsInSequence opening) (sym new) (law.new opening store script 0 c.requires.phases last) in
     let sequence_now : IsInSequence empty_database now = subst (λ (db : Database). IsInSequence db now) c.requires.opening (served.sequence refl sequence) in
     let kept : IsKept empty_database now = subst (λ (db : Database). IsKept db now) c.requires.opening c.script.ensures.kept in

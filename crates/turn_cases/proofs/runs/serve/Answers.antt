@@ -14,14 +14,14 @@ use Rattle.turn_cases.proofs.runs.serve.Goals as goal
 pub of-store-requires : goal.of-store-requires
 of-store-requires g c = subst (λ (db : Database). HasNarrowTables (catalog_of db)) (sym c.new.ensures) refl
 
-pub new-requires-2-clause-opening : goal.new-requires-2-clause-opening
-new-requires-2-clause-opening g c =
+pub new-requires-3-clause-opening : goal.new-requires-3-clause-opening
+new-requires-3-clause-opening g c =
     ap (λ (s : Store). view_of s.lazy) c.of-store.ensures
     ∙ ap (λ (db : Database). view_of (record { live = db; last = None; records = 0 })) c.new.ensures
     ∙ sym c.requires.opening
 
-pub new-requires-2-clause-registry : goal.new-requires-2-clause-registry
-new-requires-2-clause-registry g c = subst (λ (s : Store). IsOf g.N.Opened.registry s.migration) (sym c.of-store.ensures) tt
+pub new-requires-3-clause-registry : goal.new-requires-3-clause-registry
+new-requires-3-clause-registry g c = subst (λ (s : Store). IsOf g.N.Opened.registry s.migration) (sym c.of-store.ensures) tt
 
 any_session : (statements : List Statement) → AllByRecursion (λ (s : Statement). ⊤) statements
 any_session [] = tt
