@@ -23,7 +23,7 @@ import sys
 import tempfile
 import time
 
-ROUNDS = 3
+ROUNDS = 7
 SESSIONS = 4
 
 
@@ -103,14 +103,14 @@ def main():
     with tempfile.TemporaryDirectory() as folder:
         bench = Bench(program, rows, folder)
         filled = fill(rows)
-        reads = [f"SELECT * FROM person WHERE id = {n * 13 % rows};" for n in range(20000)]
+        reads = [f"SELECT * FROM person WHERE id = {n * 13 % rows};" for n in range(100000)]
         one = bench.least([filled], sessions_of(reads, 1), "--workers", "0")
         four = bench.least([filled], sessions_of(reads, SESSIONS), "--workers", "0")
         tell("reads", one, four, 1)
 
         ranges = [
             f"SELECT * FROM person WHERE id BETWEEN {n * 13 % (rows - 200)} AND {n * 13 % (rows - 200) + 199};"
-            for n in range(2000)
+            for n in range(10000)
         ]
         one = bench.least([filled], sessions_of(ranges, 1), "--workers", "0")
         four = bench.least([filled], sessions_of(ranges, SESSIONS), "--workers", "0")
