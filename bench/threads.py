@@ -11,7 +11,8 @@ its mark is about:
     reads        four sessions that read a row each time, to one session with all their statements (processor time, 1.3)
     ranges       the same with 200 rows each time (processor time, 1.3)
     commits      four sessions of commits, to one session with all of them (wall time, 1.1)
-    moving       the same with two workers that move the rows of a migration beside them (wall time, 2)
+    moving       four sessions of commits on a table that two workers move beside them, to one session with all of them and
+                 no workers (wall time, 2)
     finish       `--finish` that moves every granule, to one SELECT of everything that does (wall time)
     workers      how many granules two workers have moved when a session of INSERTs has ended
 """
@@ -116,11 +117,14 @@ def main():
         four = bench.least([filled], sessions_of(ranges, SESSIONS), "--workers", "0")
         tell("ranges", one, four, 1)
 
+        writes = [f"UPDATE person SET balance = {n} WHERE id = {n};" for n in range(5000)]
+        one = bench.least([filled], sessions_of(writes, 1), "--workers", "0")
+        four = bench.least([filled], sessions_of(writes, SESSIONS), "--workers", "0")
+        tell("commits", one, four, 0)
+
         writes = [f"UPDATE priv SET balance = {n} WHERE id = {n};" for n in range(2000)]
         both = [filled, SPLIT]
         one = bench.least(both, sessions_of(writes, 1), "--workers", "0")
-        four = bench.least(both, sessions_of(writes, SESSIONS), "--workers", "0")
-        tell("commits", one, four, 0)
         moving = bench.least(both, sessions_of(writes, SESSIONS), "--workers", "2")
         tell("moving", one, moving, 0)
 
