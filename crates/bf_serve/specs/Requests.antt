@@ -50,13 +50,10 @@ pub record IsPosition (registry : Registry) (script : Script) (p : Position) : T
   pub database : IsDatabase (without_rows p.catalog.value)
   pub limits : (s : Statement) → statement_at script p.session p.place ≡ Some s → KeepsPlanLimits p.catalog.value s
 
--- a statement that reads or writes rows, and leaves the catalog and the block as they are
-abbrev pub IsOfRows : Statement → Type 0
-IsOfRows (statement.Select list table condition) = Unit {0}
-IsOfRows (statement.Insert table tuples) = Unit {0}
-IsOfRows (statement.Update table sets condition) = Unit {0}
-IsOfRows (statement.Delete table condition) = Unit {0}
-IsOfRows other = ⊥
+-- a SELECT
+abbrev pub IsSelect : Statement → Type 0
+IsSelect (statement.Select list table condition) = Unit {0}
+IsSelect other = ⊥
 
 -- CANDIDATES: each granule that a statement needs which is bound at a position is among some
 abbrev pub AreCandidatesOf : Option (Where Migration) → Bound → List Granule → Type 0

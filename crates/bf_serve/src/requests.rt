@@ -7,7 +7,7 @@ ghost use Rattle.bf_live.specs.Replies.{IsWellBound};
 ghost use Rattle.bf_store.specs.Stores.{AreIndexesOf, IsOf};
 ghost use Rattle.bf_transpose.specs.Covers.{IsCoverOf};
 ghost use Rattle.boxcar.specs.Table.{Shows};
-ghost use Rattle.bf_serve.specs.Requests.{AreCandidatesOf, IsOfRows, IsPosition, IsPreparedAt, IsRequest};
+ghost use Rattle.bf_serve.specs.Requests.{AreCandidatesOf, IsPosition, IsPreparedAt, IsRequest, IsSelect};
 
 use bf_base::{Granule, Memory};
 use bf_image::{CatalogPass, MigrationPass, Registry, ValueIndexes};
@@ -16,7 +16,7 @@ use bf_machine::Opened;
 use bf_plan::prepare;
 use bf_sql::footprint;
 use bf_transpose::{Cover, can_need, candidates_of, cover_of};
-use bf_tree::{Action, Bound, Script, Statement};
+use bf_tree::{Bound, Script, Statement};
 use std::alloc::Global;
 use std::marker::{Model, PhantomData};
 
@@ -146,9 +146,9 @@ impl<N: Opened> Position<N> {
 }
 
 impl<N: Opened> Position<N> {
-    /// Where the session is to stand behind its reply, where both the statement and the next one read or write rows, which leaves
-    /// the catalog and the block as they are, and nothing of the last migration was left to move. `None` elsewhere.
-    pub(crate) fn behind(&self, script: &Script) -> Option<Position<N>>
+    /// Where the session is to stand behind its reply, where both the statement and the next one are SELECTs, which leave the
+    /// catalog and the block as they are, and nothing of the last migration was left to move. `None` elsewhere.
+    pub(crate) fn behind_select(&self, script: &Script) -> Option<Position<N>>
         requires { script.now ≡ N.script }
     {
         let place = self.place.checked_add(1)?;
@@ -156,7 +156,7 @@ impl<N: Opened> Position<N> {
         let statements = sessions[self.session as usize - 1].statements.as_slice();
         let here = self.place as usize - 1;
         let next = statements.get(here + 1)?;
-        if self.is_left || !is_of_rows(&statements[here]) || !is_of_rows(next) {
+        if self.is_left || !is_select(&statements[here]) || !is_select(next) {
             return None;
         }
         Some(Position {
@@ -194,13 +194,8 @@ impl<N: Opened> Request<N> {
         self.locks.as_slice()
     }
 
-    /// Whether it only reads.
-    pub(crate) fn only_reads(&self) -> bool {
-        matches!(self.bound.action, Action::Select { .. })
-    }
-
     /// Whether it locks no whole table: it names the rows that it reads or writes by their keys.
-    pub(crate) fn names_rows(&self) -> bool {
+    pub(crate) fn is_of_rows(&self) -> bool {
         for (name, mode) in self.locks.as_slice() {
             if let LockName::Whole(_) = name
                 && !matches!(mode, Mode::IS | Mode::IX)
@@ -228,17 +223,11 @@ impl<N: Opened> Request<N> {
     }
 }
 
-/// Whether a statement reads or writes rows, and leaves the catalog and the block as they are.
-fn is_of_rows(statement: &Statement) -> bool
-    ensures { IsTrue result → IsOfRows statement.now }
+/// Whether a statement is a SELECT.
+fn is_select(statement: &Statement) -> bool
+    ensures { IsTrue result → IsSelect statement.now }
 {
-    matches!(
-        statement,
-        Statement::Select { .. }
-            | Statement::Insert { .. }
-            | Statement::Update { .. }
-            | Statement::Delete { .. }
-    )
+    matches!(statement, Statement::Select { .. })
 }
 
 /// Another pass of a migration, if there is one.

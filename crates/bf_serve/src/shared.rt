@@ -16,16 +16,13 @@ use crate::upcoming::Upcoming;
 use bf_base::{Granule, Memory};
 use bf_bench::{Gate, News};
 use bf_image::{MigrationPass, Registry};
-use bf_machine::{Journal, Lookups, Opened};
+use bf_machine::{Journal, Lookups};
 use bf_tree::Script;
 use std::alloc::Global;
 use std::sync::{Arc, Condvar, Mutex, MutexGuard, Wait};
 
-/// How many statements of a session that only read have their replies in one section, at most.
-const MOST_TOGETHER: u32 = 32;
-
-/// For how many of these one counts that writes: its group may wait for the device.
-const WRITE: u32 = 8;
+/// How many statements of a session have their replies in one section, at most.
+const MOST_TOGETHER: usize = 32;
 
 /// A machine beside its journal under a lock, and what the threads of a run read without it.
 pub struct Shared<'r, 'g, N: Beginning<J>, J: Journal, R: Wait, G: Gate> {
@@ -58,11 +55,6 @@ pub(crate) enum Step {
     Ended,
     /// These granules of this migration are to move first; and how much had happened by then.
     Need(MigrationPass, Vec<Granule>, u64),
-}
-
-/// For how many statements that only read one counts.
-fn weight_of<N: Opened>(request: &Request<N>) -> u32 {
-    if request.only_reads() { 1 } else { WRITE }
 }
 
 impl<'r, 'g, N: Beginning<J>, J: Journal, R: Wait, G: Gate> Shared<'r, 'g, N, J, R, G> {
@@ -151,9 +143,9 @@ impl<'r, 'g, N: Beginning<J>, J: Journal, R: Wait, G: Gate> Shared<'r, 'g, N, J,
     }
 
     /// One turn of a session: its open group ends, or its next statement is made ready and served until it has its reply, waits
-    /// or dies, or needs granules that have not moved. Statements that name their rows by keys and stand behind each other are
-    /// made ready together and have their replies in one section; the turns behind that tell of them one by one. A turn leaves
-    /// what is known of the next ones.
+    /// or dies, or needs granules that have not moved. SELECTs of rows by their keys that stand behind each other are made ready
+    /// together and have their replies in one section; the turns behind that tell of them one by one. A turn leaves what is
+    /// known of the next ones.
     pub(crate) fn take_turn(&self, session: u32, upcoming: &mut Upcoming<N>) -> Result<Step, Memory>
         requires { IsPlace N.script session }
         ensures { IfOk result (IsStep N.registry) }
@@ -208,34 +200,29 @@ impl<'r, 'g, N: Beginning<J>, J: Journal, R: Wait, G: Gate> Shared<'r, 'g, N, J,
         }
     }
 
-    /// The statements made ready that may have their replies in the section of one: while it and they name the rows by keys
-    /// that they read or write, and at most so many that others get the lock soon.
+    /// The statements made ready that may have their replies in the section of one: while it and they are SELECTs of rows by
+    /// their keys, and at most so many that others get the lock soon.
     fn make_ready_behind(&self, request: &Request<N>) -> Result<Vec<Request<N>>, Memory> {
         let mut later = Vec::new(self.alloc);
         let mut next = self.position_behind(request);
-        let mut together = weight_of(request);
         for _ in 1..MOST_TOGETHER {
             let Some(at) = next else {
                 return Ok(later);
             };
-            if together >= MOST_TOGETHER {
-                return Ok(later);
-            }
             let request = self.make_ready(at)?;
-            together = together.saturating_add(weight_of(&request));
             next = self.position_behind(&request);
             later.push(request)?;
         }
         Ok(later)
     }
 
-    /// Where a session is to stand behind a statement that was made ready, where that and the next one read or write rows, and
-    /// it names them by their keys.
+    /// Where a session is to stand behind a statement that was made ready, where that and the next one are SELECTs and it reads
+    /// rows by their keys.
     fn position_behind(&self, request: &Request<N>) -> Option<Position<N>> {
-        if !request.names_rows() {
+        if !request.is_of_rows() {
             return None;
         }
-        request.at().behind(&self.script)
+        request.at().behind_select(&self.script)
     }
 
     /// Serves a statement that was made ready, and behind its reply later ones of its session, in one section. Tells how the

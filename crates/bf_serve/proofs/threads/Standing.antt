@@ -5,7 +5,7 @@ use Rattle.std.specs.List.{slice_index_or}
 use Rattle.std.proofs.lemmas.Option.{same_Some}
 use Rattle.boxcar.specs.Table.{Shows, Where}
 use Rattle.bf_tree.specs.Catalogs.{Catalog}
-use Rattle.bf_tree.specs.Limits.{HasNarrowTables, KeepsLimits}
+use Rattle.bf_tree.specs.Limits.{KeepsLimits}
 use Rattle.bf_tree.specs.declared.script.Script.{Script}
 use Rattle.bf_tree.specs.declared.statement.Statement.{Statement}
 use Rattle.bf_sql.specs.Bound.{catalog_of, without_rows}
@@ -22,7 +22,7 @@ use Rattle.bf_machine.specs.interleaving.Machines.{Machine}
 use Rattle.bf_machine.proofs.served.Binding.{next_limits, next_migrates, next_within}
 use Rattle.bf_plan.specs.Limits.{KeepsPlanLimits}
 use Rattle.bf_tree.specs.declared.statement.Statement.TheVariants as statement
-use Rattle.bf_serve.specs.Requests.{IsOfRows, IsPosition, Position, statement_at}
+use Rattle.bf_serve.specs.Requests.{IsPosition, IsSelect, Position, statement_at}
 use Rattle.bf_serve.proofs.threads.Asking.{read_at}
 
 module _ {start : Database} (registry : Registry) (script : Script) (m : Machine) (same : m.script ≡ script) (kept : IsKept start m) (s n : ℕ) (place : IsPlace script s) (at : StandsAs m s (stand.Statement n)) (database : IsDatabase m.db)
@@ -59,18 +59,14 @@ some_at [] i within = absurd (omega (arith, within))
 some_at (x ∷ xs) zero within = (x, refl)
 some_at (x ∷ xs) (suc i) within = some_at xs i (omega (arith, within))
 
--- behind a position the next one is so too where a statement on rows stands there
+-- behind a position the next one is so too where a SELECT stands there
 module _ (registry : Registry) (script : Script) (p : Position) (is : IsPosition registry script p) (n : ℕ) (next : n ≡ p.place + 1)
-    (within : p.place < length (session_at script p.session).statements) (there : Statement) (found : statement_at script p.session n ≡ Some there) (of_rows : IsOfRows there) where
-  tables : HasNarrowTables p.catalog.value
-  tables = let here = some_at (session_at script p.session).statements (p.place - 1) is.within in (is.limits here.0 here.1).bound.tables
-
-  rows_limits : (s : Statement) → IsOfRows s → KeepsPlanLimits p.catalog.value s
-  rows_limits (statement.Select list table condition) of_rows = record { bound = record { tables = tables; declared = omega (arith) }; planned = tt }
-  rows_limits (statement.Insert table tuples) of_rows = record { bound = record { tables = tables; declared = omega (arith) }; planned = tt }
-  rows_limits (statement.Update table sets condition) of_rows = record { bound = record { tables = tables; declared = omega (arith) }; planned = tt }
-  rows_limits (statement.Delete table condition) of_rows = record { bound = record { tables = tables; declared = omega (arith) }; planned = tt }
-  rows_limits other of_rows = absurd of_rows
+    (within : p.place < length (session_at script p.session).statements) (there : Statement) (found : statement_at script p.session n ≡ Some there) (select : IsSelect there) where
+  select_limits : (s : Statement) → IsSelect s → KeepsPlanLimits p.catalog.value s
+  select_limits (statement.Select list table condition) select =
+      let here = some_at (session_at script p.session).statements (p.place - 1) is.within in
+      record { bound = record { tables = (is.limits here.0 here.1).bound.tables; declared = omega (arith) }; planned = tt }
+  select_limits other select = absurd select
 
   pub behind_position : IsPosition registry script (record { session = p.session; place = n; in_block = p.in_block; catalog = p.catalog; migration = p.migration })
   behind_position = record {
@@ -80,5 +76,5 @@ module _ (registry : Registry) (script : Script) (p : Position) (is : IsPosition
     shown = is.shown;
     of = is.of;
     database = is.database;
-    limits = λ s at. subst (KeepsPlanLimits p.catalog.value) (same_Some there s (sym found ∙ at)) (rows_limits there of_rows);
+    limits = λ s at. subst (KeepsPlanLimits p.catalog.value) (same_Some there s (sym found ∙ at)) (select_limits there select);
   }

@@ -1,4 +1,4 @@
--- Behind a position the next statement reads or writes rows, and is of the same script.
+-- Behind a position the next statement is a SELECT of the same script.
 use Rattle.std.proofs.Common.{◌≡◌, ℕ, ◌+◌, ◌-◌, ◌<◌, arith, List, length, Option, Some, refl, sym, ap, subst, ◌∙◌}
 use Rattle.std.specs.Prelude.{slice_get}
 use Rattle.std.specs.List.{slice_index_or}
@@ -13,7 +13,7 @@ use Rattle.bf_machine.proofs.served.Nexts.{got}
 use Rattle.bf_serve.specs.Requests.{IsPosition, Position}
 use Rattle.bf_serve.proofs.threads.Making.{texts_are}
 use Rattle.bf_serve.proofs.threads.Standing.{behind_position}
-use Rattle.bf_serve.proofs.requests.Position.behind.Goals as goal
+use Rattle.bf_serve.proofs.requests.Position.behind_select.Goals as goal
 
 pub invariant_of-result : goal.invariant_of-result
 invariant_of-result g c =
@@ -36,6 +36,6 @@ invariant_of-result g c =
     let read : slice_index_or ss (n - 1) there ≡ there =
     sym (c.in_ok-next.ensures.lookup.1 ∙ (ap (λ (k : ℕ). slice_index_or statements k there) at ∙ ap (λ (xs : List Statement). slice_index_or xs (n - 1) there) texts)) in
     let found : slice_get ss (n - 1) ≡ Some there = got ss (n - 1) there (omega (arith, next, within)) read in
-    let is = behind_position registry script p c.self.invariant n next within there found (c.if-not-is_of_rows-2.ensures refl) in
+    let is = behind_position registry script p c.self.invariant n next within there found (c.if-not-is_select-2.ensures refl) in
     subst (λ (k : Where Catalog). IsPosition registry script (record { session = i.session; place = n; in_block = i.in_block; catalog = k; migration = c.copy_of_pass.result })) (sym c.copy.ensures)
     (subst (λ (o : Option (Where Migration)). IsPosition registry script (record { session = i.session; place = n; in_block = i.in_block; catalog = i.catalog; migration = o })) (sym c.copy_of_pass.ensures) is)
