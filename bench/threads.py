@@ -5,8 +5,8 @@ Takes the program, as `rt run` leaves it, and how many rows a table has:
 
     python3 bench/threads.py crates/bullfrog/out/bullfrog 100000
 
-Told are the wall time and the processor time of each side, the least of some rounds, and the ratio of the time that
-its mark is about:
+Told are the wall time and the processor time of each side, the medians of rounds in which one side runs behind the
+other, without what reopening the log takes, and the ratio of the time that its mark is about:
 
     reads        four sessions that read a row each time, to one session with all their statements (processor time, 1.3)
     ranges       the same with 200 rows each time (processor time, 1.3)
@@ -19,6 +19,7 @@ its mark is about:
 
 import os
 import resource
+import statistics
 import subprocess
 import sys
 import tempfile
@@ -77,17 +78,21 @@ class Bench:
             run(self.program, path, script, "--workers", "0")
         return path
 
-    def least(self, scripts, script, *options):
-        """The least times of some rounds, each over a new log."""
-        times = []
-        for _ in range(ROUNDS):
-            path = self.log(*scripts)
-            reopened = run(self.program, path, "PHASE;", "--workers", "0")
-            wall, spent, text = run(self.program, path, script, *options)
-            times.append((wall - reopened[0], spent - reopened[1], text))
-            os.remove(path)
-        wall = min(one[0] for one in times)
-        return wall, min(one[1] for one in times), times[-1][2]
+    def time(self, scripts, script, options):
+        """The wall time and the processor time of a run over a new log, without those of reopening it, and its report."""
+        path = self.log(*scripts)
+        reopened = run(self.program, path, "PHASE;", "--workers", "0")
+        wall, spent, text = run(self.program, path, script, *options)
+        os.remove(path)
+        return wall - reopened[0], spent - reopened[1], text
+
+    def medians(self, scripts, *sides):
+        """The median times of each side, a script and its options, which run one behind the other in each round."""
+        rounds = [[self.time(scripts, script, options) for script, *options in sides] for _ in range(ROUNDS)]
+        return [
+            (statistics.median(one[0] for one in times), statistics.median(one[1] for one in times), times[-1][2])
+            for times in zip(*rounds)
+        ]
 
 
 def tell(name, one, other, which):
@@ -99,44 +104,34 @@ def tell(name, one, other, which):
     )
 
 
+ALONE = ("--workers", "0")
+
+
 def main():
     program, rows = os.path.abspath(sys.argv[1]), int(sys.argv[2])
     with tempfile.TemporaryDirectory() as folder:
         bench = Bench(program, rows, folder)
         filled = fill(rows)
-        reads = [f"SELECT * FROM person WHERE id = {n * 13 % rows};" for n in range(100000)]
-        one = bench.least([filled], sessions_of(reads, 1), "--workers", "0")
-        four = bench.least([filled], sessions_of(reads, SESSIONS), "--workers", "0")
-        tell("reads", one, four, 1)
 
-        ranges = [
-            f"SELECT * FROM person WHERE id BETWEEN {n * 13 % (rows - 200)} AND {n * 13 % (rows - 200) + 199};"
-            for n in range(10000)
-        ]
-        one = bench.least([filled], sessions_of(ranges, 1), "--workers", "0")
-        four = bench.least([filled], sessions_of(ranges, SESSIONS), "--workers", "0")
-        tell("ranges", one, four, 1)
+        def beside(name, scripts, statements, which):
+            """Four sessions beside one session, without workers."""
+            sides = [(sessions_of(statements, count), *ALONE) for count in (1, SESSIONS)]
+            tell(name, *bench.medians(scripts, *sides), which)
 
-        writes = [f"UPDATE person SET balance = {n} WHERE id = {n};" for n in range(5000)]
-        one = bench.least([filled], sessions_of(writes, 1), "--workers", "0")
-        four = bench.least([filled], sessions_of(writes, SESSIONS), "--workers", "0")
-        tell("commits", one, four, 0)
+        beside("reads", [filled], [f"SELECT * FROM person WHERE id = {n * 13 % rows};" for n in range(100000)], 1)
+        spans = [(n * 13 % (rows - 200), n * 13 % (rows - 200) + 199) for n in range(10000)]
+        beside("ranges", [filled], [f"SELECT * FROM person WHERE id BETWEEN {low} AND {high};" for low, high in spans], 1)
+        beside("commits", [filled], [f"UPDATE person SET balance = {n} WHERE id = {n};" for n in range(5000)], 0)
 
-        writes = [f"UPDATE priv SET balance = {n} WHERE id = {n};" for n in range(2000)]
         both = [filled, SPLIT]
-        one = bench.least(both, sessions_of(writes, 1), "--workers", "0")
-        moving = bench.least(both, sessions_of(writes, SESSIONS), "--workers", "2")
-        tell("moving", one, moving, 0)
-
-        whole = "PHASE; SESSION; SELECT COUNT(*) FROM priv;"
-        select = bench.least(both, whole, "--workers", "0")
-        finish = bench.least(both, "PHASE; SESSION;", "--workers", "0", "--finish")
-        tell("finish", select, finish, 0)
-        busy = "PHASE; SESSION;\n" + "\n".join(
-            f"INSERT INTO other VALUES ({n});" for n in range(rows // 20)
-        )
+        writes = [f"UPDATE priv SET balance = {n} WHERE id = {n};" for n in range(2000)]
+        sides = [(sessions_of(writes, 1), *ALONE), (sessions_of(writes, SESSIONS), "--workers", "2")]
+        tell("moving", *bench.medians(both, *sides), 0)
+        sides = [("PHASE; SESSION; SELECT COUNT(*) FROM priv;", *ALONE), ("PHASE; SESSION;", *ALONE, "--finish")]
+        tell("finish", *bench.medians(both, *sides), 0)
+        busy = "PHASE; SESSION;\n" + "\n".join(f"INSERT INTO other VALUES ({n});" for n in range(rows // 20))
         other = "PHASE; SESSION; CREATE TABLE other (id INT, PRIMARY KEY (id));"
-        workers = bench.least([filled, other, SPLIT], busy, "--workers", "2")
+        workers = bench.time([filled, other, SPLIT], busy, ("--workers", "2"))
         print("workers beside inserts: " + workers[2].splitlines()[-1], f"in {workers[0]:.2f} s")
 
 
