@@ -45,7 +45,12 @@ fn serve<N: Opened, R: Wait>(
     requires limits { IsWithinLimits script }
 {
     let store = Store::of(alloc, LiveTables::new(alloc));
-    let mut machine: Machine<N> = Machine::new(alloc, store, Arc::new(alloc, script)?, order.retries)?;
+    let mut machine: Machine<N> = Machine::new(
+        alloc,
+        store,
+        Arc::new(alloc, script)?,
+        order.retries,
+    )?;
     let mut journal = Refusing::of(order.refused);
     in_order(alloc, rt, registry, &mut journal, &mut machine, order.turns)?;
     let sweep = machine.sweep();
