@@ -1,0 +1,4 @@
+pub mod Copies
+pub mod Inverses
+pub mod Undone
+pub mod Wholes

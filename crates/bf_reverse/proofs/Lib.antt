@@ -1,0 +1,4 @@
+pub mod Chosen
+pub mod Found
+pub mod Placing
+pub mod Walks

@@ -1,0 +1,3 @@
+pub mod Catalogued
+pub mod Narrow
+pub mod RunEach

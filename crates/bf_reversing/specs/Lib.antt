@@ -1,0 +1,4 @@
+pub mod Befores
+pub mod Outcomes
+pub mod Runs
+pub mod Spellings
