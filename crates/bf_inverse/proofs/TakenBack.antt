@@ -182,7 +182,7 @@ no_objection_when {X = X} test r (x ∷ xs) all =
     ap₂ (λ (b : Bool) (rest : List Refusal). when b (r x) ++ rest) (not-true (test x) both.0) (no_objection_when test r xs both.1)
 
 -- nothing is on a table that is not there
-not_on_none : (db : Database) (rule : IndexRule) → stored_at db rule.table ≡ None → is_on_table db rule ≡ true → ⊥
+pub not_on_none : (db : Database) (rule : IndexRule) → stored_at db rule.table ≡ None → is_on_table db rule ≡ true → ⊥
 not_on_none db rule none on =
     let wrong : false ≡ true =
     some_of_those (λ (s : Stored). not (same_name s.table.name rule.table)) (λ (s : Stored). same_name s.table.name rule.table && is_within s.table rule.columns) false
@@ -204,7 +204,7 @@ or_none : (b : Bool) → (b || false) ≡ b
 or_none true = refl
 or_none false = refl
 
-found_within : (xs : List Stored) (name : List ℕ) (p : Stored → Bool) (s : Stored) → are_apart (eq_by_cmp name_cmp) (map name_of xs) ≡ true → found xs name ≡ Some s
+pub found_within : (xs : List Stored) (name : List ℕ) (p : Stored → Bool) (s : Stored) → are_apart (eq_by_cmp name_cmp) (map name_of xs) ≡ true → found xs name ≡ Some s
     → list_any (λ (y : Stored). same_name y.table.name name && p y) xs ≡ true → p s ≡ true
 found_within [] name p s apart e some = absurd (false≢true some)
 found_within (x ∷ xs) name p s apart e some = of (same_name x.table.name name) refl (found_within xs name p s parts.1)

@@ -136,3 +136,13 @@ enumerated_more {X = X} {Y = Y} f n xs i x in_range is = let next : i + 1 ≡ su
 -- as often as once
 pub once_in_two : (a b : ℕ) → a ≡ 0 → (b == 1) ≡ (a + b == 1)
 once_in_two a b e = ap (λ (n : ℕ). n == 1) (let same : b ≡ a + b = omega (arith, e) in same)
+
+-- and where they are the first and the second of a whole table's targets
+pub both_targets : (table : Table) (copies : List Copied) (first second : Copied) (key : List ℕ) → 2 ≤ length copies → first ≡ get_or copies 0 first → second ≡ get_or copies 1 second
+    → keep_all table copies ≡ true → is_within table table.key ≡ true → key ≡ table.key → list_all (λ (k : ℕ). stand_in_both first second k) key ≡ true
+both_targets table [] first second key two at_first at_second keep within own = absurd (omega arith)
+both_targets table (a ∷ []) first second key two at_first at_second keep within own = absurd (omega arith)
+both_targets table (a ∷ b ∷ more) first second key two at_first at_second keep within own =
+    ap₂ (λ (x y : Copied). list_all (λ (k : ℕ). stand_in_both x y k) key) at_first at_second
+    ∙ ap (λ (ks : List ℕ). list_all (λ (k : ℕ). stand_in_both a b k) ks) own
+    ∙ key_in_both_targets table a b more keep within

@@ -1,6 +1,7 @@
 -- Targets that are gathered as long as their sources are whole, and tables that are looked up.
-use Rattle.std.proofs.Common.{◌≡◌, ℕ, Bool, true, false, cond, List, [], ◌∷◌, ◌++◌, map, find, Option, Some, None, Result, Ok, Err, is_some, unwrap_or, refl, sym, ap, ap₂, ◌∙◌, append_assoc, append-nil, option_map, if◌then◌else◌}
+use Rattle.std.proofs.Common.{◌≡◌, ◌<◌, ◌+◌, ℕ, Bool, true, false, cond, List, [], ◌∷◌, ◌++◌, length, get_or, drop, arith, map, find, Option, Some, None, Result, Ok, Err, is_some, unwrap_or, refl, sym, ap, ap₂, ◌∙◌, append_assoc, append-nil, option_map, if◌then◌else◌}
 use Rattle.std.specs.Result.{result_map_both}
+use Rattle.std.proofs.lemmas.List.{drop_more}
 use Rattle.bf_base.specs.Lists.{same_name}
 use Rattle.bf_base.specs.declared.table.Table.{Table}
 use Rattle.bf_tree.specs.declared.migration.Target.{Target}
@@ -38,3 +39,14 @@ module _ (db : Database) (plan : Plan) (targets : List Target) (source : List �
 
 pub all_there : (targets : List Target) (whole : Result (List Target) (List ℕ)) → behind targets (Ok []) ≡ whole → Ok targets ≡ whole
 all_there targets whole so_far = ap Ok (sym (append-nil targets)) ∙ so_far
+
+-- a source that is read at a place
+pub next_source : (db : Database) (plan : Plan) (targets : List Target) (read : List (List ℕ)) → read ≡ plan.sources → (i : ℕ) (source : List ℕ) (whole : Result (List Target) (List ℕ))
+    → i < length read → source ≡ get_or read i source → behind targets (targets_back db plan (drop i plan.sources)) ≡ whole
+    → behind targets (targets_back db plan (source ∷ drop (i + 1) plan.sources)) ≡ whole
+next_source db plan targets read same i source whole in_range is so_far =
+    let long : length read ≡ length plan.sources = ap (λ (names : List (List ℕ)). length names) same in
+    let less : i < length plan.sources = omega (arith, long, in_range) in
+    let here : get_or plan.sources i source ≡ source = sym (is ∙ ap (λ (names : List (List ℕ)). get_or names i source) same) in
+    let split : drop i plan.sources ≡ source ∷ drop (i + 1) plan.sources = drop_more plan.sources i source less ∙ ap (λ (name : List ℕ). name ∷ drop (i + 1) plan.sources) here in
+    ap (λ (names : List (List ℕ)). behind targets (targets_back db plan names)) (sym split) ∙ so_far

@@ -83,3 +83,35 @@ finds {X = X} p (x ∷ xs) d some = of (p x) refl (finds p xs d)
         let fewer : length (filter p (x ∷ xs)) ≡ length (filter p xs) = ap (λ (b : Bool). length (cond b (x ∷ filter p xs) (filter p xs))) e in
         let r : IsFound p xs d = rest (omega (arith, some, fewer)) in
         record { item = r.item; found = ap (λ (b : Bool). cond b (Some x) (find p xs)) e ∙ r.found; first = ap (λ (b : Bool). get_or (cond b (x ∷ filter p xs) (filter p xs)) 0 d) e ∙ r.first }
+
+-- the same of lists that are read under other names
+pub pair_in : {A B : Type 0} (ks ks_read : List A) (vs vs_read : List B) → ks_read ≡ ks → vs_read ≡ vs → (i : ℕ) (a : A) (b : B)
+    → i < min (length ks_read) (length vs_read) → a ≡ get_or ks_read i a → b ≡ get_or vs_read i b
+    → drop i (zip ks vs) ≡ (a, b) ∷ drop (i + 1) (zip ks vs)
+pair_in {A = A} {B = B} ks ks_read vs vs_read same_ks same_vs i a b less at_ks at_vs =
+    let own_ks : length ks_read ≡ length ks = ap (λ (xs : List A). length xs) same_ks in
+    let own_vs : length vs_read ≡ length vs = ap (λ (xs : List B). length xs) same_vs in
+    pair_at ks vs i a b (omega (arith, less, own_ks)) (omega (arith, less, own_vs))
+    (at_ks ∙ ap (λ (xs : List A). get_or xs i a) same_ks) (at_vs ∙ ap (λ (xs : List B). get_or xs i b) same_vs)
+
+pub no_pair_in : {A B : Type 0} (ks ks_read : List A) (vs vs_read : List B) → ks_read ≡ ks → vs_read ≡ vs → (i : ℕ)
+    → min (length ks_read) (length vs_read) ≤ i → drop i (zip ks vs) ≡ []
+no_pair_in {A = A} {B = B} ks ks_read vs vs_read same_ks same_vs i past =
+    let own_ks : length ks_read ≡ length ks = ap (λ (xs : List A). length xs) same_ks in
+    let own_vs : length vs_read ≡ length vs = ap (λ (xs : List B). length xs) same_vs in
+    none_behind (zip ks vs) i (omega (arith, past, own_ks, own_vs, length-zip ks vs))
+
+-- one more of the values that pass a test
+module _ {X A : Type 0} (f : X → Option A) (p : X → Bool) (done : List A) (x : X) (xs rest : List X) (whole : Option (List A))
+    (split : xs ≡ x ∷ rest) (so_far : ahead f done (filter p xs) ≡ whole) where
+  pub takes : p x ≡ true → ahead f done (x ∷ filter p rest) ≡ whole
+  takes e =
+      ap (λ (b : Bool). ahead f done (cond b (x ∷ filter p rest) (filter p rest))) (sym e)
+      ∙ ap (λ (zs : List X). ahead f done (filter p zs)) (sym split)
+      ∙ so_far
+
+  pub skips : p x ≡ false → ahead f done (filter p rest) ≡ whole
+  skips e =
+      ap (λ (b : Bool). ahead f done (cond b (x ∷ filter p rest) (filter p rest))) (sym e)
+      ∙ ap (λ (zs : List X). ahead f done (filter p zs)) (sym split)
+      ∙ so_far

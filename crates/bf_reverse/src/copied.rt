@@ -53,10 +53,11 @@ fn columns_of(
     let count = items.len().min(places.len());
     let mut columns = Vec::with_capacity(alloc, count)?;
     for index in 0..count {
+        let item = &items[index];
         let Some(place) = place_of(&places[index]) else {
             return Ok(None);
         };
-        columns.push((name_of(&items[index]).copy(alloc)?, place))?;
+        columns.push((name_of(item).copy(alloc)?, place))?;
     }
     Ok(Some(Sequence::of(columns)))
 }

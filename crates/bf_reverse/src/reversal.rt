@@ -2,6 +2,7 @@
 
 ghost use Rattle.std.specs.List.{list_all};
 ghost use Rattle.std.specs.Prelude.{◌≡◌, ◌++◌, IfOk, IsTrue, is_some};
+ghost use Rattle.bf_base.specs.Lists.{has, same_name};
 ghost use Rattle.bf_tree.specs.Limits.{HasNarrowTables, IsNarrowMigrate};
 ghost use Rattle.bf_tree.specs.Places.{table_named};
 ghost use Rattle.bf_sql.specs.Bound.{without_rows};
@@ -54,6 +55,13 @@ fn targets_back(alloc: Global, plan: &Plan, catalog: &Catalog) -> Result<Targets
     Ok(Ok(Sequence::of(targets)))
 }
 
+/// Whether a name is one of some names.
+fn is_among(name: &Name, names: &[Name]) -> bool
+    ensures { result ≡ has same_name names.now name.now }
+{
+    names.iter().any(|other| *name == *other)
+}
+
 /// What creates the indexes of some tables again, behind other statements.
 fn with_indexes(
     alloc: Global,
@@ -66,7 +74,7 @@ fn with_indexes(
         ≡ statements.items ++ indexes_on (without_rows catalog.now) sources.now) }
 {
     for rule in catalog.indexes() {
-        if sources.contains(&rule.table) {
+        if is_among(&rule.table, sources) {
             // Each index of a catalog is on one of its tables.
             let table = catalog.table(&rule.table).unwrap();
             statements.push(index_back(alloc, table, rule)?)?;

@@ -140,8 +140,10 @@ pub(crate) fn copies_of(
     let arms = plan.arms.as_slice();
     let mut copies = Vec::new(alloc);
     for index in 0..targets.len().min(arms.len()) {
-        if target_names(&targets[index], source) {
-            match copied_of(alloc, &targets[index], arms[index].as_slice())? {
+        let target = &targets[index];
+        let placed = &arms[index];
+        if target_names(target, source) {
+            match copied_of(alloc, target, placed.as_slice())? {
                 Some(copied) => copies.push(copied)?,
                 None => return Ok(None),
             }

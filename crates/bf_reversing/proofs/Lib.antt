@@ -1,3 +1,4 @@
 pub mod Catalogued
+pub mod Grouping
 pub mod Narrow
 pub mod RunEach

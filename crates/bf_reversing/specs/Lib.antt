@@ -1,4 +1,6 @@
 pub mod Befores
+pub mod Entries
+pub mod Groups
 pub mod Outcomes
 pub mod Runs
 pub mod Spellings

@@ -20,6 +20,8 @@ use Rattle.bf_reversing.specs.Befores.{database_before, ends_in_block, last_stat
 use Rattle.bf_inverse.specs.Inverses.{inverse_of}
 use Rattle.bf_reversing.specs.Spellings.{statements_text}
 use Rattle.bf_inverse.specs.Wholes.{first_lossy}
+use Rattle.bf_reverse.specs.declared.reversal.Reversal.{Reversal}
+use Rattle.bf_reverse.specs.declared.reversal.Reversal.TheVariants.{Inverse, Refused, Lossy}
 use Rattle.bf_reversing.specs.declared.status.ReverseStatus.{ReverseStatus}
 use Rattle.bf_reversing.specs.declared.status.ReverseStatus.TheVariants as status
 
@@ -67,6 +69,12 @@ told_unless_refused (Some refusal) told = told_refused refusal
 abbrev pub told_on : Database → Migrate → Told
 told_on db m = told_unless_refused (first_objection db m) (told_unless_lossy (first_lossy db m) (inverse_of db m))
 
+-- of a MIGRATE by its way back
+abbrev pub told_by : Reversal → Told
+told_by (Inverse statements) = told_inverse statements
+told_by (Refused refusal) = told_refused refusal
+told_by (Lossy source) = told_lossy source
+
 -- of the MIGRATE that ends a script
 abbrev pub told_of_migrate : Script → Migrate → Told
 told_of_migrate script m = if ends_in_block script then told_refused MustBeAlone else told_on (database_before script) m
@@ -100,22 +108,29 @@ IsReadThrough input bytes =
 abbrev pub asks : List (List ℕ) → Type 0
 asks words = words ≡ codes "reverse" ∷ []
 
--- an input that is no script, with its first fault; or the answer to the script that it is
+-- ANSWER to a text: that it is no script, with its first fault; or that to the script that it is
+abbrev pub IsTextTold : List ℕ → Told → Type 0
+IsTextTold bytes told =
+    ((fault : ScriptFault) × IsScriptText bytes (Err fault) × (told ≡ told_fault fault))
+    ⊎ ((script : Script) × IsScriptText bytes (Ok script) × (told ≡ told_of script))
+
+-- the same of an input that has these bytes: how far it was read
 abbrev pub IsToldOf : Stream → List ℕ → Told → Type 0
 IsToldOf input bytes told =
     ((fault : ScriptFault) × IsScriptText bytes (Err fault) × IsReadThrough input bytes × (told ≡ told_fault fault))
     ⊎ ((script : Script) × IsScriptText bytes (Ok script) × IsAtEnd input.bytes_after × (told ≡ told_of script))
 
+-- ANSWERS to an input: to a source that failed, or to its bytes, of those that it tells, or of some
+pub data IsInputTold (input : Stream) (told : Told) : Type 0 where
+  read_fault : Rose input.faults input.faults_after → told ≡ (status.ReadFault, codes "read fault" ++ newline) → IsInputTold input told
+  read : IsCalm input → (bytes : List ℕ) → IfTold input.bytes (λ all. bytes ≡ all) → IsToldOf input bytes told → IsInputTold input told
+
 module _ (words : List (List ℕ)) (input : Stream) where
-  -- ANSWERS before anything is written: to words that ask for something else, to a source that failed, or to its bytes, of
-  -- those that it tells, or of some
-  pub data IsAnswer : Told → Type 0 where
-    usage : {told : Told} → (asks words → ⊥) → Keeps input.bytes input.bytes_after → IsCalm input
+  -- ANSWERS before anything is written: to words that ask for something else, or to the input
+  pub data IsAnswer (told : Told) : Type 0 where
+    usage : (asks words → ⊥) → Keeps input.bytes input.bytes_after → IsCalm input
         → told ≡ (status.Usage, codes "usage error" ++ newline) → IsAnswer told
-    read_fault : {told : Told} → asks words → Rose input.faults input.faults_after
-        → told ≡ (status.ReadFault, codes "read fault" ++ newline) → IsAnswer told
-    read : {told : Told} → asks words → IsCalm input → (bytes : List ℕ) → IfTold input.bytes (λ all. bytes ≡ all)
-        → IsToldOf input bytes told → IsAnswer told
+    asked : asks words → IsInputTold input told → IsAnswer told
 
   -- the sink took the whole text of an answer, and no write failed
   pub record AnswersWhole (output : Stream) (status : ReverseStatus) : Type 0 where

@@ -1,88 +1,149 @@
 //! The last statement of a script, and what its groups before that leave.
 
+ghost use Rattle.std.specs.List.{AllByRecursion};
+ghost use Rattle.std.specs.Option.{option_copied};
+ghost use Rattle.std.specs.Prelude.{◌≡◌, ◌++◌, IfOk, OnOk, map};
+ghost use Rattle.bf_sql.specs.Database.{empty_database};
+ghost use Rattle.bf_sql.specs.Groups.{groups_of, statements_of};
+ghost use Rattle.bf_sql.specs.History.{replayed};
+ghost use Rattle.bf_eager.specs.Eager.{ran_entry};
+ghost use Rattle.bf_reversing.specs.Befores.{all_but_last, entries_of, entry_of, is_block, last_of, last_statement};
+ghost use Rattle.bf_reversing.specs.Entries.{IsRunnable, is_committed};
+ghost use Rattle.bf_reversing.specs.Groups.{by_group};
+
+use crate::groups::{Group, counted, groups_of};
 use bf_base::Memory;
 use bf_eager::Eager;
-use bf_tree::{Script, Session, Statement};
+use bf_tree::{Entry, Outcome, Script, Statement};
 use std::alloc::Global;
 
-/// A statement of a script, and what stands before it: whole sessions, and statements of its own session.
-#[derive(Clone, Copy)]
-pub(crate) struct Last<'a> {
-    pub(crate) sessions: &'a [Session],
-    pub(crate) statements: &'a [Statement],
-    pub(crate) last: &'a Statement,
-}
-
 /// The last statement of a script, if it has one.
-pub(crate) fn last_statement(script: &Script) -> Option<Last<'_>> {
-    let sessions = script.sessions.as_slice();
-    for index in (0..sessions.len()).rev() {
-        if let Some((last, statements)) = sessions[index].statements.as_slice().split_last() {
-            return Some(Last {
-                sessions: &sessions[..index],
-                statements,
-                last,
-            });
+pub(crate) fn last_statement(script: &Script) -> Option<&Statement>
+    ensures { option_copied result ≡ last_statement script.now }
+{
+    let mut last = None;
+    for session in script.sessions.as_slice() {
+        if let Some(statement) = session.statements.as_slice().last() {
+            last = Some(statement);
         }
     }
-    None
+    last
 }
 
-/// Whether statements leave a block open.
-pub(crate) fn leave_block(statements: &[Statement]) -> bool {
-    let mut is_open = false;
-    for statement in statements {
-        match statement {
-            Statement::Begin => is_open = true,
-            Statement::Commit | Statement::Rollback => is_open = false,
-            _ => {}
-        }
+/// The outcome of a group, whose number among the commits nothing reads.
+fn outcome_of(group: Group) -> Outcome
+    ensures { result ≡ (by_group 0 group).outcome }
+{
+    if group.commits {
+        Outcome::Committed(0)
+    } else {
+        Outcome::RolledBack
     }
-    is_open
 }
 
-/// How many statements a block has from its BEGIN on, and whether it commits.
-fn block(statements: &[Statement]) -> (usize, bool) {
-    for (index, statement) in statements.iter().enumerate() {
-        match statement {
-            Statement::Commit => return (index + 1, true),
-            Statement::Rollback => return (index + 1, false),
-            _ => {}
-        }
-    }
-    (statements.len(), false)
-}
-
-/// Runs the groups of statements of a session, one after the other. A COMMIT or ROLLBACK in no group is left out.
-///
-/// # Errors
-/// As `Eager::run_entry` says.
-fn run_groups(database: &mut Eager, statements: &[Statement]) -> Result<(), Memory> {
-    let mut at = 0;
-    while at < statements.len() {
-        let (length, commits) = match &statements[at] {
-            Statement::Commit | Statement::Rollback => {
-                at += 1;
-                continue;
-            }
-            Statement::Begin => block(&statements[at..]),
-            _ => (1, true),
-        };
-        let _replies = database.run_entry(&statements[at..at + length], commits)?;
-        at += length;
+/// Adds the entries of a session, which is counted from 1.
+fn add_entries(
+    alloc: Global,
+    entries: &mut Vec<Entry>,
+    session: u32,
+    statements: &[Statement],
+) -> Result<(), Memory>
+    ensures { OnOk result (entries.new.items
+        ≡ entries.old.items ++ map (entry_of session statements.now) (groups_of statements.now)) }
+{
+    for group in groups_of(alloc, statements)? {
+        entries.push(Entry {
+            session,
+            first: group.first,
+            last: group.last,
+            outcome: outcome_of(group),
+        })?;
     }
     Ok(())
 }
 
-/// The database that what stands before a statement leaves of the empty one. It costs what the statements cost.
+/// All groups of a script, one session after the other.
+///
+/// # Errors
+/// Where memory runs out.
+pub(crate) fn entries_of(alloc: Global, script: &Script) -> Result<Vec<Entry>, Memory>
+    ensures { IfOk result (λ entries. entries.items ≡ entries_of script.now) }
+{
+    let mut entries = Vec::new(alloc);
+    for (index, session) in script.sessions.as_slice().iter().enumerate() {
+        let number = counted(index)?;
+        add_entries(alloc, &mut entries, number, session.statements.as_slice())?;
+    }
+    Ok(entries)
+}
+
+/// Whether the last of some groups is a block of several statements.
+pub(crate) fn end_in_block(entries: &[Entry]) -> bool
+    ensures { result ≡ is_block (last_of entries.now) }
+{
+    match entries.last() {
+        Some(last) => last.first < last.last,
+        None => false,
+    }
+}
+
+/// All groups but the last.
+pub(crate) fn but_last(entries: &[Entry]) -> &[Entry]
+    ensures { result.now ≡ all_but_last entries.now }
+{
+    &entries[..entries.len().saturating_sub(1)]
+}
+
+/// Whether a group that ends so commits.
+fn is_committed(outcome: Outcome) -> bool
+    ensures { result ≡ is_committed outcome }
+{
+    match outcome {
+        Outcome::Committed(_) => true,
+        Outcome::RolledBack => false,
+    }
+}
+
+/// The statements of a group of a script.
+fn statements_of(script: &Script, entry: Entry) -> &[Statement]
+    requires { IsRunnable script.now entry }
+    ensures { result.now ≡ statements_of script.now entry }
+{
+    let session = &script.sessions.as_slice()[entry.session as usize - 1];
+    &session.statements.as_slice()[entry.first as usize - 1..entry.last as usize]
+}
+
+/// Runs a group of a script.
 ///
 /// # Errors
 /// As `Eager::run_entry` says.
-pub(crate) fn database_before(alloc: Global, last: Last) -> Result<Eager, Memory> {
+fn run_group(database: &mut Eager, script: &Script, entry: Entry) -> Result<(), Memory>
+    requires { IsRunnable script.now entry }
+    ensures { OnOk result (database.new
+        ≡ (ran_entry database.old (is_committed entry.outcome) (statements_of script.now entry)).1) }
+{
+    let statements = statements_of(script, entry);
+    let _replies = database.run_entry(statements, is_committed(entry.outcome))?;
+    Ok(())
+}
+
+/// The database that some groups of a script leave of the empty one, one after the other. It costs what their
+/// statements cost.
+///
+/// # Errors
+/// As `Eager::run_entry` says.
+pub(crate) fn database_behind(
+    alloc: Global,
+    script: &Script,
+    entries: &[Entry],
+) -> Result<Eager, Memory>
+    requires { AllByRecursion (IsRunnable script.now) entries.now }
+    ensures { IfOk result (λ database. database.database
+        ≡ (replayed script.now empty_database entries.now).1) }
+{
     let mut database = Eager::new(alloc);
-    for session in last.sessions {
-        run_groups(&mut database, session.statements.as_slice())?;
+    for entry in entries {
+        run_group(&mut database, script, *entry)?;
     }
-    run_groups(&mut database, last.statements)?;
     Ok(database)
 }

@@ -3,6 +3,7 @@
 #![tactic(auto)]
 
 mod before;
+mod groups;
 pub mod reversing;
 mod spelling;
 pub mod status;
