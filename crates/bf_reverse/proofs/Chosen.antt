@@ -1,21 +1,20 @@
 -- Columns and targets that are chosen: the first that copies a column, and each column of a table.
-use Rattle.std.proofs.Common.{◌≡◌, ℕ, zero, suc, ◌+◌, ◌-◌, ◌<◌, ◌≤◌, Bool, true, false, ◌&&◌, ◌||◌, cond, List, [], ◌∷◌, ◌++◌, map, filter, find, length, get_or, slice_index_or, take, Bor, Option, Some, None, is_some, refl, sym, ap, ap₂, ◌∙◌, arith, nat_eq, nat_lt, ◌==◌, option_map}
+use Rattle.std.proofs.Common.{◌≡◌, ℕ, zero, suc, ◌+◌, ◌-◌, ◌<◌, ◌≤◌, Bool, true, false, ◌&&◌, ◌||◌, cond, List, [], ◌∷◌, ◌++◌, map, filter, find, length, get_or, take, Bor, Option, Some, None, is_some, refl, sym, ap, ap₂, ◌∙◌, arith, nat_eq, nat_lt, ◌==◌, option_map}
 use Rattle.std.specs.Cmp.{nat_eq_equiv}
 use Rattle.std.specs.List.{AllByRecursion, enumerate_from, list_all, list_any, range_with_len}
 use Rattle.std.specs.Option.{option_copied}
 use Rattle.std.proofs.lemmas.Bool.{and_from, and_parts, eqb-true, false≢true, lt-ltb, ltb-true}
-use Rattle.std.proofs.lemmas.List.{get_or-map, get_or_append_left, length-append, length-map}
+use Rattle.std.proofs.lemmas.List.{get_or-map, get_or_append_left, length-map}
 use Rattle.bf_base.specs.declared.table.Table.{Table}
 use Rattle.bf_base.specs.Lists.{has}
 use Rattle.bf_tree.specs.declared.raw.Ref.{Ref}
 use Rattle.bf_sql.specs.Database.{is_within}
 use Rattle.bf_sql.specs.Scopes.{unqualified}
 use Rattle.bf_inverse.specs.Inverses.{first_ref}
-use Rattle.bf_inverse.specs.Wholes.{keep_all, refs_in, refs_of, stand_in_both, stands_once}
+use Rattle.bf_inverse.specs.Wholes.{keep_all, refs_in, refs_of, stand_in_both}
 use Rattle.bf_inverse.specs.declared.copied.Copied.{Copied}
 use Rattle.bf_inverse.proofs.Brought.{key_at, own_members, stands_from}
 use Rattle.bf_inverse.proofs.Cells.{Column_copied}
-use Rattle.bf_inverse.proofs.Finding.{each_true}
 use Rattle.bf_reverse.proofs.Walks.{IsFound, finds}
 
 pub some_copied : {T : Type 0} (o : Option (Bor T)) (x : T) → option_copied o ≡ Some x → is_some o ≡ true
@@ -44,7 +43,7 @@ named copied place some =
       f.item.0,
       ap (option_map (λ (c : Column_copied). c.0)) f.found,
       get_or-map (λ (c : Column_copied). let r : Ref = record { table = Some copied.name; column = c.0 } in r) (filter (copies_it place) copied.columns) 0 ([], 0) (unqualified []) (listed copied place some)
-      ∙ ap (λ (c : Column_copied). let r : Ref = record { table = Some copied.name; column = c.0 } in r) f.first,
+          ∙ ap (λ (c : Column_copied). let r : Ref = record { table = Some copied.name; column = c.0 } in r) f.first,
     )
 
 pub ref_named : (copied : Copied) (place : ℕ) (name : List ℕ) → 0 < length (refs_in place copied) → Some name ≡ name_found copied place → record { table = Some copied.name; column = name } ≡ first_ref (refs_in place copied)

@@ -1,9 +1,7 @@
 -- Targets that are gathered as long as their sources are whole, and tables that are looked up.
-use Rattle.std.proofs.Common.{◌≡◌, ◌<◌, ◌+◌, ℕ, Bool, true, false, cond, List, [], ◌∷◌, ◌++◌, length, get_or, drop, arith, map, find, Option, Some, None, Result, Ok, Err, is_some, unwrap_or, refl, sym, ap, ap₂, ◌∙◌, append_assoc, append-nil, option_map, if◌then◌else◌}
+use Rattle.std.proofs.Common.{◌≡◌, ◌<◌, ◌+◌, ℕ, Bool, true, false, List, [], ◌∷◌, ◌++◌, length, get_or, drop, arith, Option, Some, Result, Ok, Err, unwrap_or, refl, sym, ap, ◌∙◌, append_assoc, append-nil, if◌then◌else◌}
 use Rattle.std.specs.Result.{result_map_both}
 use Rattle.std.proofs.lemmas.List.{drop_more}
-use Rattle.bf_base.specs.Lists.{same_name}
-use Rattle.bf_base.specs.declared.table.Table.{Table}
 use Rattle.bf_tree.specs.declared.migration.Target.{Target}
 use Rattle.bf_tree.specs.declared.plan.Plan.{Plan}
 use Rattle.bf_sql.specs.Database.{Database, table_at}

@@ -1,19 +1,15 @@
 -- The indexes of a catalog stand on its tables.
-use Rattle.std.proofs.Common.{◌≡◌, ℕ, Bool, true, false, cond, List, [], ◌∷◌, ◌++◌, map, filter, find, Bor, Option, Some, None, is_some, refl, sym, ap, ap₂, ◌∙◌, append_assoc, option_map}
+use Rattle.std.proofs.Common.{◌≡◌, ℕ, Bool, true, false, cond, List, [], ◌∷◌, ◌++◌, map, filter, find, Bor, Option, Some, None, is_some, refl, sym, ap, ◌∙◌, option_map}
 use Rattle.std.specs.List.{list_all}
 use Rattle.std.specs.Option.{option_copied}
-use Rattle.std.proofs.lemmas.Bool.{and_parts, false≢true}
-use Rattle.std.proofs.lemmas.List.{map-append}
-use Rattle.std.proofs.lemmas.List.Elements.{filter-append}
-use Rattle.std.proofs.lemmas.List.Folds.{list_all-append}
+use Rattle.std.proofs.lemmas.Bool.{and_parts}
 use Rattle.bf_base.specs.Lists.{same_name}
 use Rattle.bf_base.specs.declared.table.Table.{Table}
 use Rattle.bf_tree.specs.Catalogs.{Catalog}
 use Rattle.bf_tree.specs.Places.{table_named}
 use Rattle.bf_tree.specs.declared.catalog.IndexRule.{IndexRule}
-use Rattle.bf_tree.specs.declared.statement.Statement.{Statement}
 use Rattle.bf_sql.specs.Bound.{table_without_rows, without_rows}
-use Rattle.bf_sql.specs.Database.{Database, IsDatabase, Stored, is_on_table, is_within, stored_at}
+use Rattle.bf_sql.specs.Database.{IsDatabase, Stored, is_on_table, is_within}
 use Rattle.bf_bind.proofs.Lookups.{stored-named, there}
 use Rattle.bf_inverse.specs.Inverses.{index_back, index_on}
 use Rattle.bf_base.proofs.Apart.{apart_from_rises}

@@ -1,14 +1,13 @@
 -- The way back by a plan is the way back by the names.
-use Rattle.std.proofs.Common.{◌≡◌, ℕ, Bool, true, false, not, cond, List, [], ◌∷◌, ◌++◌, map, filter, find, zip, Option, Some, None, Result, Ok, Err, is_some, unwrap_or, refl, sym, ap, ap₂, ◌∙◌, option_map, if◌then◌else◌}
+use Rattle.std.proofs.Common.{◌≡◌, ℕ, Bool, true, false, not, cond, List, [], ◌∷◌, map, filter, find, zip, Option, Some, None, Result, Ok, Err, is_some, unwrap_or, refl, sym, ap, ap₂, ◌∙◌, option_map, if◌then◌else◌}
 use Rattle.std.specs.List.{list_all}
 use Rattle.std.specs.Result.{result_map_both}
 use Rattle.std.proofs.lemmas.Bool.{and_from, and_parts}
-use Rattle.bf_base.specs.Lists.{has, same_name}
 use Rattle.bf_base.specs.declared.table.Table.{Table}
 use Rattle.bf_tree.specs.Catalogs.{Catalog}
 use Rattle.bf_tree.specs.Places.{table_named}
 use Rattle.bf_tree.specs.Settling.{first_of}
-use Rattle.bf_tree.specs.Trees.{Expr, literal, column, negated, plus, minus, times, joined}
+use Rattle.bf_tree.specs.Trees.{literal, column, negated, plus, minus, times, joined}
 use Rattle.bf_tree.specs.declared.migration.Arm.{Arm}
 use Rattle.bf_tree.specs.declared.migration.Item.{Item}
 use Rattle.bf_tree.specs.declared.migration.Item.TheVariants as item
@@ -17,7 +16,6 @@ use Rattle.bf_tree.specs.declared.migration.Target.{Target}
 use Rattle.bf_tree.specs.declared.plan.PlacedArm.{PlacedArm}
 use Rattle.bf_tree.specs.declared.plan.Plan.{Plan}
 use Rattle.bf_tree.specs.declared.reply.Refusal.{Refusal}
-use Rattle.bf_tree.specs.declared.statement.Statement.TheVariants as statement
 use Rattle.bf_sql.specs.Conditions.{all_there}
 use Rattle.bf_sql.specs.Bound.{table_without_rows, without_rows}
 use Rattle.bf_sql.specs.Database.{Database, Stored, stored_at, table_at}
@@ -28,7 +26,7 @@ use Rattle.bf_sql.specs.migrations.Plans.{plan_made, plan_of, planned_unless}
 use Rattle.bf_sql.specs.migrations.Targets.{arm_scope}
 use Rattle.bf_inverse.specs.Copies.{column_copied, copied_by, copied_of, is_bare}
 use Rattle.bf_inverse.specs.Inverses.{inverse_of, source_back, target_back}
-use Rattle.bf_reverse.specs.Planned.{column_placed, columns_placed, copied_arms, copied_placed, copies_planned, indexes_on, reversal_by, reversal_planned, targets_back}
+use Rattle.bf_reverse.specs.Planned.{column_placed, columns_placed, copied_arms, copied_placed, copies_planned, reversal_by, reversal_planned, targets_back}
 use Rattle.bf_reverse.specs.Reversals.{reversal_of, unless_lossy, unless_refused}
 use Rattle.bf_reverse.specs.declared.reversal.Reversal.TheVariants.{Refused}
 use Rattle.bf_bind.proofs.Lookups.{stored-named}

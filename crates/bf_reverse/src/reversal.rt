@@ -87,11 +87,7 @@ fn with_indexes(
 ///
 /// # Errors
 /// Where memory runs out.
-pub fn unless_lossy(
-    alloc: Global,
-    plan: &Plan,
-    catalog: &Catalog,
-) -> Result<Reversal, Memory>
+pub fn unless_lossy(alloc: Global, plan: &Plan, catalog: &Catalog) -> Result<Reversal, Memory>
     requires database { IsDatabase (without_rows catalog.now) }
     requires sources { IsTrue (list_all (λ s. is_some (table_named catalog.now s)) plan.now.sources) }
     requires narrow { HasNarrowTables catalog.now }

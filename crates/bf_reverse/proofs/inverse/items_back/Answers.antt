@@ -1,5 +1,4 @@
-use Rattle.std.proofs.Common.{◌≡◌, ◌<◌, ◌++◌, ℕ, List, [], ◌∷◌, length, get_or, zero-add, sym, ap, ap₂, ◌∙◌}
-use Rattle.bf_base.specs.declared.table.Column.{Column}
+use Rattle.std.proofs.Common.{◌++◌, ℕ, List, [], ◌∷◌, zero-add, sym, ap, ap₂, ◌∙◌}
 use Rattle.bf_tree.specs.declared.migration.Item.{Item}
 use Rattle.bf_inverse.specs.Inverses.{item_back}
 use Rattle.bf_reverse.proofs.Chosen.{enumerated_more, stands}

@@ -1,4 +1,4 @@
-use Rattle.std.proofs.Common.{◌≡◌, List, ℕ, Option, Some, sym, ap, ap₂, ◌∙◌}
+use Rattle.std.proofs.Common.{List, ℕ, Some, sym, ap, ap₂, ◌∙◌}
 use Rattle.std.specs.Option.{option_copied}
 use Rattle.bf_tree.specs.declared.raw.Ref.{Ref}
 use Rattle.bf_reverse.proofs.Chosen.{named, ref_named, some_copied}

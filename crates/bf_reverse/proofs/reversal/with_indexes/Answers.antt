@@ -1,4 +1,4 @@
-use Rattle.std.proofs.Common.{◌≡◌, List, [], ◌∷◌, ◌++◌, map, filter, Bool, true, Some, sym, ap, ap₂, ◌∙◌, append_assoc, append-nil}
+use Rattle.std.proofs.Common.{◌≡◌, List, [], ◌∷◌, ◌++◌, map, filter, Bool, Some, sym, ap, ap₂, ◌∙◌, append_assoc}
 use Rattle.std.specs.Map.Iter.{deref}
 use Rattle.std.specs.Option.{option_copied}
 use Rattle.std.proofs.lemmas.List.{map-append}
@@ -16,7 +16,7 @@ unwrap-table-requires c =
     let catalog = c.args.catalog.now in
     let rule = c.in-Some.rule.now in
     let whole : map deref c.loop-rule.yielded ++ rule ∷ c.next.new.self ≡ catalog.indexes =
-        ap (λ (rs : List IndexRule). map deref c.loop-rule.yielded ++ rs) (sym c.in-Some.ensures.steps) ∙ c.loop-rule.invariant.left in
+    ap (λ (rs : List IndexRule). map deref c.loop-rule.yielded ++ rs) (sym c.in-Some.ensures.steps) ∙ c.loop-rule.invariant.left in
     is_there c.table.result (table_named catalog rule.table) c.table.ensures
     (table_there catalog c.requires rule (on_its_table catalog c.requires (map deref c.loop-rule.yielded) c.next.new.self rule whole))
 
@@ -25,7 +25,7 @@ index_back-requires c =
     let catalog = c.args.catalog.now in
     let rule = c.in-Some.rule.now in
     let whole : map deref c.loop-rule.yielded ++ rule ∷ c.next.new.self ≡ catalog.indexes =
-        ap (λ (rs : List IndexRule). map deref c.loop-rule.yielded ++ rs) (sym c.in-Some.ensures.steps) ∙ c.loop-rule.invariant.left in
+    ap (λ (rs : List IndexRule). map deref c.loop-rule.yielded ++ rs) (sym c.in-Some.ensures.steps) ∙ c.loop-rule.invariant.left in
     columns_fit catalog c.requires rule c.unwrap-table.result.now (sym (ap option_copied c.unwrap-table.ensures) ∙ c.table.ensures)
     (on_its_table catalog c.requires (map deref c.loop-rule.yielded) c.next.new.self rule whole)
 
@@ -36,7 +36,7 @@ loop-rule-preserved-in_ok-push c =
     let so_far = map deref c.loop-rule.yielded in
     let of_sources : IndexRule → Bool = λ (r : IndexRule). has same_name c.args.sources.now r.table in
     let whole : so_far ++ rule ∷ c.next.new.self ≡ catalog.indexes =
-        ap (λ (rs : List IndexRule). so_far ++ rs) (sym c.in-Some.ensures.steps) ∙ c.loop-rule.invariant.left in
+    ap (λ (rs : List IndexRule). so_far ++ rs) (sym c.in-Some.ensures.steps) ∙ c.loop-rule.invariant.left in
     let more : map deref (c.loop-rule.yielded ++ c.in-Some.rule ∷ []) ≡ so_far ++ rule ∷ [] = map-append deref c.loop-rule.yielded (c.in-Some.rule ∷ []) in
     let named : Some c.unwrap-table.result.now ≡ table_named catalog rule.table = sym (ap option_copied c.unwrap-table.ensures) ∙ c.table.ensures in
     record {
@@ -58,7 +58,7 @@ loop-rule-preserved c =
     let so_far = map deref c.loop-rule.yielded in
     let of_sources : IndexRule → Bool = λ (r : IndexRule). has same_name c.args.sources.now r.table in
     let whole : so_far ++ rule ∷ c.next.new.self ≡ catalog.indexes =
-        ap (λ (rs : List IndexRule). so_far ++ rs) (sym c.in-Some.ensures.steps) ∙ c.loop-rule.invariant.left in
+    ap (λ (rs : List IndexRule). so_far ++ rs) (sym c.in-Some.ensures.steps) ∙ c.loop-rule.invariant.left in
     let more : map deref (c.loop-rule.yielded ++ c.in-Some.rule ∷ []) ≡ so_far ++ rule ∷ [] = map-append deref c.loop-rule.yielded (c.in-Some.rule ∷ []) in
     record {
       can = tt;
