@@ -1,5 +1,5 @@
 -- The way back reads tables without their rows, and index rules.
-use Rattle.std.proofs.Common.{◌≡◌, ℕ, Bool, true, false, not, cond, List, [], ◌∷◌, ◌++◌, map, filter, find, flat_map, length, Option, Some, None, Ok, Err, unwrap_or, refl, sym, ap, ap₂, ◌∙◌, option_map, if◌then◌else◌}
+use Rattle.std.proofs.Common.{◌≡◌, ℕ, Bool, true, false, not, cond, List, [], ◌∷◌, ◌++◌, map, filter, find, flat_map, length, Option, Some, None, Ok, Err, unwrap_or, refl, sym, ap, ap₂, subst, ◌∙◌, option_map, if◌then◌else◌}
 use Rattle.bf_base.specs.Lists.{has, same_name}
 use Rattle.bf_base.specs.declared.table.Table.{Table}
 use Rattle.bf_tree.specs.Settling.{first_of}
@@ -10,7 +10,8 @@ use Rattle.bf_tree.specs.declared.migration.Target.{Target}
 use Rattle.bf_tree.specs.declared.statement.Statement.{Statement}
 use Rattle.bf_tree.specs.declared.statement.Statement.TheVariants as statement
 use Rattle.bf_sql.specs.Conditions.{all_there}
-use Rattle.bf_sql.specs.Database.{Database, no_table, table_at}
+use Rattle.bf_sql.specs.Database.{Database, IsDatabase, no_table, table_at}
+use Rattle.bf_live.proofs.statements.Bare.{bare_is_database}
 use Rattle.bf_sql.specs.Scopes.{Scope, scope_of}
 use Rattle.bf_sql.specs.migrations.MigrationObjections.{migrate_objections, sources_of}
 use Rattle.bf_sql.specs.migrations.Targets.{arm_scope, arm_sources}
@@ -71,6 +72,10 @@ module _ (a b : Database) (same : (name : List ℕ) → table_under a name ≡ t
         (map_same (source_back a m) (source_back b m) back_alike (sources_of m))
         (ap (λ (rules : List IndexRule). map (index_back a) (filter (λ (rule : IndexRule). has same_name (sources_of m) rule.table) rules)) indexes
         ∙ map_same (index_back a) (index_back b) (λ rule. ap (λ (table : Table). index_on table rule) (table_alike rule.table)) (filter (λ (rule : IndexRule). has same_name (sources_of m) rule.table) b.indexes))
+
+-- the catalog of a database has what is true of each
+pub is_bare : (db : Database) (catalog : Catalog) → catalog ≡ catalog_of db → IsDatabase db → IsDatabase (without_rows catalog)
+is_bare db catalog same is = subst (λ (catalog : Catalog). IsDatabase (without_rows catalog)) (sym same) (bare_is_database db is)
 
 -- on a database, by the plan in its catalog
 module _ (db : Database) (catalog : Catalog) (same : catalog ≡ catalog_of db) (m : Migrate) where

@@ -1,4 +1,10 @@
 pub mod Catalogued
 pub mod Grouping
+pub mod Lasts
+pub mod Migrates
 pub mod Narrow
+pub mod Parsed
 pub mod RunEach
+pub mod Runnable
+pub mod Texts
+pub mod Wholes

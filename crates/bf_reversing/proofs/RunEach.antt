@@ -1,5 +1,6 @@
 -- Statements that are run one after the other, and a MIGRATE with its inverse behind it.
-use Rattle.std.proofs.Common.{◌≡◌, ℕ, zero, suc, ◌+◌, ◌<◌, Bool, true, false, not, List, [], ◌∷◌, ◌++◌, map, flat_map, length, take, Option, Some, None, is_some, refl, sym, ap, ap₂, ◌∙◌, arith, append_assoc, get_or}
+use Rattle.std.proofs.Common.{◌≡◌, ◌⊎◌, inl, inr, IsTrue, ℕ, zero, suc, ◌+◌, ◌<◌, Bool, true, false, not, List, [], ◌∷◌, ◌++◌, map, flat_map, length, take, Option, Some, None, is_some, refl, sym, ap, ap₂, ◌∙◌, arith, append_assoc, get_or}
+use Rattle.std.specs.Prelude.{OnErr, Result, Ok, Err}
 use Rattle.std.specs.List.{AllByRecursion, list_all}
 use Rattle.std.proofs.lemmas.List.{take_more}
 use Rattle.bf_tree.specs.declared.migration.Migrate.{Migrate}
@@ -15,7 +16,11 @@ use Rattle.bf_sql.specs.migrations.Images.{flipped}
 use Rattle.bf_sql.specs.migrations.MigrationObjections.{migrate_objections, sources_of}
 use Rattle.bf_eager.specs.Eager.{Ran, ran_entry}
 use Rattle.bf_inverse.specs.Inverses.{inverse_of}
-use Rattle.bf_inverse.specs.Undone.{CanBeUndone, HasArms, HasCreatedIndexes, IsTakenBack, is_refusal, run_each, there_and_back, undone}
+use Rattle.bf_inverse.specs.Undone.{CanBeUndone, HasArms, HasCreatedIndexes, IsTakenBack, first_objection, is_refusal, run_each, there_and_back, undone}
+use Rattle.bf_inverse.specs.Wholes.{first_lossy}
+use Rattle.bf_reverse.specs.Reversals.{reversal_on, unless_lossy, unless_refused}
+use Rattle.bf_reverse.specs.declared.reversal.Reversal.{Reversal}
+use Rattle.bf_reverse.specs.declared.reversal.Reversal.TheVariants.{Inverse}
 use Rattle.bf_reversing.specs.Runs.{HasRun, HasRunFront, HasUndone, ran_each}
 use Rattle.bf_inverse.proofs.Reindexed.{ran_one}
 use Rattle.bf_inverse.proofs.TakenBack.{inverse_takes_back}
@@ -47,7 +52,7 @@ pub front_first : (old new : Ran) (m : Migrate) → HasRun old (statement.Migrat
 front_first old new m (zero, is) = (0, is)
 front_first old new m (suc n, is) = (1, is ∙ ap (λ (ss : List Statement). (ran_each old (statement.Migrate m ∷ ss)).1) (none_taken n))
   where
-    none_taken : (n : ℕ) → take n [] ≡ []
+    none_taken : (n : ℕ) → take {A = Statement} n [] ≡ []
     none_taken zero = refl
     none_taken (suc n) = refl
 
@@ -93,3 +98,52 @@ module _ (old : Ran) (is : IsDatabase old.database) (created : HasCreatedIndexes
         undone = left;
         regained = left ∙ back.regained (old.commits + 1);
       }
+
+-- the replies and the last database of the MIGRATE and of its inverse, which were run one behind the other
+pub both_ran : (old between new : Ran) (m : Migrate) (inverse : List Statement) (first replies : List Reply)
+    → first ≡ [] ++ (ran_each old (statement.Migrate m ∷ [])).0 → between ≡ (ran_each old (statement.Migrate m ∷ [])).1
+    → replies ≡ first ++ (ran_each between inverse).0 → new ≡ (ran_each between inverse).1
+    → (replies, new) ≡ ran_each old (statement.Migrate m ∷ inverse)
+both_ran old between new m inverse first replies is_first is_between is_replies is_new =
+    ap₂ pair
+    (is_replies ∙ ap₂ (λ (rs : List Reply) (ran : Ran). rs ++ (ran_each ran inverse).0) is_first is_between)
+    (is_new ∙ ap (λ (ran : Ran). (ran_each ran inverse).1) is_between)
+    ∙ sym (ran_after old (statement.Migrate m ∷ []) inverse)
+  where
+    pair : List Reply → Ran → List Reply × Ran
+    pair replies new = (replies, new)
+
+-- what a way back says of the MIGRATE
+pub record IsWayBack (db : Database) (m : Migrate) (inverse : List Statement) : Type 0 where
+  pub can : CanBeUndone db m
+  pub is : inverse ≡ inverse_of db m
+
+pub way_back : (db : Database) (m : Migrate) (inverse : List Statement) → Inverse inverse ≡ reversal_on db m → IsWayBack db m inverse
+way_back db m inverse is = of (first_objection db m) refl (first_lossy db m) refl is
+  where
+    of : (objection : Option Refusal) → first_objection db m ≡ objection → (lossy : Option (List ℕ)) → first_lossy db m ≡ lossy
+        → Inverse inverse ≡ unless_refused objection (unless_lossy lossy (inverse_of db m)) → IsWayBack db m inverse
+    of None allowed None whole is = let same : inverse ≡ inverse_of db m = cc in record { can = record { allowed = allowed; whole = whole }; is = same }
+    of None allowed (Some source) whole is = absurd cc
+    of (Some refusal) allowed lossy whole is = absurd cc
+
+pub no_way_back : (db : Database) (m : Migrate) (reversal : Reversal) → reversal ≡ reversal_on db m → ((inverse : List Statement) → reversal ≡ Inverse inverse → ⊥)
+    → IsTrue (is_some (first_objection db m)) ⊎ IsTrue (is_some (first_lossy db m))
+no_way_back db m reversal is none = of (first_objection db m) (first_lossy db m) is
+  where
+    of : (objection : Option Refusal) (lossy : Option (List ℕ)) → reversal ≡ unless_refused objection (unless_lossy lossy (inverse_of db m))
+        → IsTrue (is_some objection) ⊎ IsTrue (is_some lossy)
+    of None None is = absurd (none (inverse_of db m) is)
+    of None (Some source) is = inr refl
+    of (Some refusal) lossy is = inl refl
+
+-- one more statement that was run
+pub one_ran : (old between new : Ran) (ss read : List Statement) (i : ℕ) (s : Statement) (answers : List Reply)
+    → (answers, new) ≡ ran_entry between true read → between ≡ (ran_each old (take i ss)).1 → read ≡ s ∷ []
+    → (answers, new) ≡ ran_entry (ran_each old (take i ss)).1 true (s ∷ [])
+one_ran old between new ss read i s answers ran before same = ran ∙ ap₂ (λ (now : Ran) (ts : List Statement). ran_entry now true ts) before same
+
+-- what holds holds at an error
+pub at_err : {X E : Type 0} (r : Result X E) (P : Type 0) → P → OnErr r P
+at_err (Ok x) P p = tt
+at_err (Err e) P p = p

@@ -1,5 +1,6 @@
 -- How a call that reverses ends: its status, when it comes, and what is written.
 use Rattle.std.specs.Prelude.{◌≡◌, ℕ, ◌+◌, ◌≤◌, ◌⊎◌, Bool, true, false, List, [], ◌∷◌, ◌++◌, length, codes, Option, None, Some, Result, Ok, Err, ⊤, if◌then◌else◌}
+use Rattle.std.specs.Str.{bytes_eq}
 use Rattle.std.specs.Io.KnownBytes.{Appends, Keeps, Consumes, IsAtEnd}
 use Rattle.bf_base.specs.Limits.{longest_script}
 use Rattle.bf_io.specs.Causes.{Rose}
@@ -105,8 +106,9 @@ IsReadThrough input bytes =
     ⊎ ((read : List ℕ) × (length read ≡ longest_script + 1) × Consumes input.bytes input.bytes_after read)
 
 -- the words behind the program's name that ask for this
-abbrev pub asks : List (List ℕ) → Type 0
-asks words = words ≡ codes "reverse" ∷ []
+abbrev pub asks : List (List ℕ) → Bool
+asks (word ∷ []) = bytes_eq word (codes "reverse")
+asks other = false
 
 -- ANSWER to a text: that it is no script, with its first fault; or that to the script that it is
 abbrev pub IsTextTold : List ℕ → Told → Type 0
@@ -128,9 +130,9 @@ pub data IsInputTold (input : Stream) (told : Told) : Type 0 where
 module _ (words : List (List ℕ)) (input : Stream) where
   -- ANSWERS before anything is written: to words that ask for something else, or to the input
   pub data IsAnswer (told : Told) : Type 0 where
-    usage : (asks words → ⊥) → Keeps input.bytes input.bytes_after → IsCalm input
+    usage : asks words ≡ false → Keeps input.bytes input.bytes_after → IsCalm input
         → told ≡ (status.Usage, codes "usage error" ++ newline) → IsAnswer told
-    asked : asks words → IsInputTold input told → IsAnswer told
+    asked : asks words ≡ true → IsInputTold input told → IsAnswer told
 
   -- the sink took the whole text of an answer, and no write failed
   pub record AnswersWhole (output : Stream) (status : ReverseStatus) : Type 0 where

@@ -43,12 +43,21 @@ join_text (Some join) = codes " JOIN " ++ join.table ++ codes " ON " ++ with_bet
 abbrev pub arm_text : Arm → List ℕ
 arm_text arm = codes "SELECT " ++ with_between (codes ", ") (map item_text arm.items) ++ codes " FROM " ++ arm.from ++ join_text arm.join
 
+abbrev pub table_text : List ℕ → List ℕ
+table_text name = codes "CREATE TABLE " ++ name ++ codes " AS "
+
 abbrev pub target_text : Target → List ℕ
-target_text target = codes "CREATE TABLE " ++ target.name ++ codes " AS " ++ with_between (codes " UNION ALL ") (map arm_text target.arms)
+target_text target = table_text target.name ++ with_between (codes " UNION ALL ") (map arm_text target.arms)
+
+abbrev pub index_text : List ℕ → List ℕ → List ℕ
+index_text name table = codes "CREATE INDEX " ++ name ++ codes " ON " ++ table
+
+abbrev pub columns_text : List (List ℕ) → List ℕ
+columns_text columns = codes " (" ++ with_between (codes ", ") columns ++ codes ")"
 
 abbrev pub statement_text : Statement → List ℕ
 statement_text (statement.Migrate m) = codes "MIGRATE (" ++ with_between (codes "; ") (map target_text m.targets) ++ codes ")"
-statement_text (statement.CreateIndex name table columns) = codes "CREATE INDEX " ++ name ++ codes " ON " ++ table ++ codes " (" ++ with_between (codes ", ") columns ++ codes ")"
+statement_text (statement.CreateIndex name table columns) = index_text name table ++ columns_text columns
 statement_text other = []
 
 -- a statement on a line of its own

@@ -6,7 +6,7 @@ ghost use Rattle.std.specs.Prelude.{◌≡◌, ◌++◌, IfOk, OnOk, map};
 ghost use Rattle.bf_sql.specs.Database.{empty_database};
 ghost use Rattle.bf_sql.specs.Groups.{groups_of, statements_of};
 ghost use Rattle.bf_sql.specs.History.{replayed};
-ghost use Rattle.bf_eager.specs.Eager.{ran_entry};
+ghost use Rattle.bf_eager.specs.Eager.{outcome_of, ran_entry};
 ghost use Rattle.bf_reversing.specs.Befores.{all_but_last, entries_of, entry_of, is_block, last_of, last_statement};
 ghost use Rattle.bf_reversing.specs.Entries.{IsRunnable, is_committed};
 ghost use Rattle.bf_reversing.specs.Groups.{by_group};
@@ -22,7 +22,8 @@ pub(crate) fn last_statement(script: &Script) -> Option<&Statement>
     ensures { option_copied result ≡ last_statement script.now }
 {
     let mut last = None;
-    for session in script.sessions.as_slice() {
+    let sessions = script.sessions.as_slice();
+    for session in sessions {
         if let Some(statement) = session.statements.as_slice().last() {
             last = Some(statement);
         }
@@ -30,14 +31,26 @@ pub(crate) fn last_statement(script: &Script) -> Option<&Statement>
     last
 }
 
-/// The outcome of a group, whose number among the commits nothing reads.
-fn outcome_of(group: Group) -> Outcome
-    ensures { result ≡ (by_group 0 group).outcome }
+/// The outcome of a group. Nothing reads its number among the commits.
+fn outcome_of(commits: bool) -> Outcome
+    ensures { result ≡ outcome_of commits }
 {
-    if group.commits {
+    if commits {
         Outcome::Committed(0)
     } else {
         Outcome::RolledBack
+    }
+}
+
+/// The entry of a group of a session.
+fn entry_of(session: u32, group: Group) -> Entry
+    ensures { result ≡ by_group session group }
+{
+    Entry {
+        session,
+        first: group.first,
+        last: group.last,
+        outcome: outcome_of(group.commits),
     }
 }
 
@@ -51,13 +64,9 @@ fn add_entries(
     ensures { OnOk result (entries.new.items
         ≡ entries.old.items ++ map (entry_of session statements.now) (groups_of statements.now)) }
 {
-    for group in groups_of(alloc, statements)? {
-        entries.push(Entry {
-            session,
-            first: group.first,
-            last: group.last,
-            outcome: outcome_of(group),
-        })?;
+    let groups = groups_of(alloc, statements)?;
+    for group in groups.as_slice() {
+        entries.push(entry_of(session, *group))?;
     }
     Ok(())
 }
@@ -70,7 +79,8 @@ pub(crate) fn entries_of(alloc: Global, script: &Script) -> Result<Vec<Entry>, M
     ensures { IfOk result (λ entries. entries.items ≡ entries_of script.now) }
 {
     let mut entries = Vec::new(alloc);
-    for (index, session) in script.sessions.as_slice().iter().enumerate() {
+    let sessions = script.sessions.as_slice();
+    for (index, session) in sessions.iter().enumerate() {
         let number = counted(index)?;
         add_entries(alloc, &mut entries, number, session.statements.as_slice())?;
     }

@@ -1,6 +1,6 @@
 //! The call that reads a script and writes what takes its last MIGRATE back.
 
-ghost use Rattle.std.specs.Prelude.{◌≡◌, ◌↔◌, IfOk, IsTrue, map};
+ghost use Rattle.std.specs.Prelude.{◌≡◌, IfOk, map};
 ghost use Rattle.bf_tree.specs.Limits.{IsNarrowMigrate};
 ghost use Rattle.bf_reversing.specs.Befores.{IsWithinLimits};
 ghost use Rattle.bf_reversing.specs.Outcomes.{IsAnswer, IsInputTold, IsOutcome, IsTextTold};
@@ -100,7 +100,7 @@ fn told_of_input<I: Source>(alloc: Global, input: &mut I) -> Result<Told, Memory
 
 /// Whether words ask for this call.
 fn ask(words: &[&str]) -> bool
-    ensures { IsTrue result ↔ asks (map (λ word. word.now) words.now) }
+    ensures { result ≡ asks (map (λ word. word.now) words.now) }
 {
     match words {
         [word] => *word == "reverse",

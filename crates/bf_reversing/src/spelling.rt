@@ -1,8 +1,8 @@
 //! The statements of an inverse as they are written.
 
 ghost use Rattle.std.specs.Prelude.{◌≡◌, ◌++◌, ℕ, List, map, flat_map, OnOk, codes};
-ghost use Rattle.bf_reversing.specs.Spellings.{arm_text, item_text, join_text, line_text, named_text};
-ghost use Rattle.bf_reversing.specs.Spellings.{pair_text, ref_text, statement_text, statements_text, target_text, with_between};
+ghost use Rattle.bf_reversing.specs.Spellings.{arm_text, columns_text, index_text, item_text, join_text, line_text, named_text};
+ghost use Rattle.bf_reversing.specs.Spellings.{pair_text, ref_text, statement_text, statements_text, table_text, target_text, with_between};
 
 use bf_base::{Memory, Name, Sequence};
 use bf_tree::{Arm, Item, Join, RawExpr, RawNode, Ref, Statement, Target};
@@ -137,31 +137,41 @@ impl Spelled for Arm {
     }
 }
 
+/// Appends what stands in front of the queries of a target.
+fn put_table(out: &mut Vec<u8>, name: &Name) -> Result<(), Memory>
+    ensures { OnOk result (out.new.items ≡ out.old.items ++ table_text name.now) }
+{
+    put(out, b"CREATE TABLE ")?;
+    name.put(out)?;
+    put(out, b" AS ")
+}
+
 impl Spelled for Target {
     ghost text = { target_text };
 
     fn put(&self, out: &mut Vec<u8>) -> Result<(), Memory> {
-        put(out, b"CREATE TABLE ")?;
-        self.name.put(out)?;
-        put(out, b" AS ")?;
+        put_table(out, &self.name)?;
         put_with_between(out, b" UNION ALL ", self.arms.as_slice())
     }
 }
 
-/// Appends a CREATE INDEX.
-fn put_index(
-    out: &mut Vec<u8>,
-    name: &Name,
-    table: &Name,
-    columns: &Sequence<Name>,
-) -> Result<(), Memory> {
-    put(out, b"CREATE INDEX ")?;
-    name.put(out)?;
-    put(out, b" ON ")?;
-    table.put(out)?;
+/// Appends the columns of a CREATE INDEX.
+fn put_columns(out: &mut Vec<u8>, columns: &Sequence<Name>) -> Result<(), Memory>
+    ensures { OnOk result (out.new.items ≡ out.old.items ++ columns_text columns.now) }
+{
     put(out, b" (")?;
     put_with_between(out, b", ", columns.as_slice())?;
     put(out, b")")
+}
+
+/// Appends the name and the table of a CREATE INDEX.
+fn put_index(out: &mut Vec<u8>, name: &Name, table: &Name) -> Result<(), Memory>
+    ensures { OnOk result (out.new.items ≡ out.old.items ++ index_text name.now table.now) }
+{
+    put(out, b"CREATE INDEX ")?;
+    name.put(out)?;
+    put(out, b" ON ")?;
+    table.put(out)
 }
 
 impl Spelled for Statement {
@@ -178,7 +188,10 @@ impl Spelled for Statement {
                 name,
                 table,
                 columns,
-            } => put_index(out, name, table, columns),
+            } => {
+                put_index(out, name, table)?;
+                put_columns(out, columns)
+            }
             // No inverse has another statement.
             _ => Ok(()),
         }

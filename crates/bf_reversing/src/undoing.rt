@@ -56,10 +56,11 @@ pub fn reverse_on(alloc: Global, database: &Eager, migrate: &Migrate) -> Result<
     ensures database { IsDatabase database.now.database }
     ensures narrow { HasNarrowTables (catalog_of database.now.database) }
 {
-    match plan(alloc, migrate, database.catalog())? {
+    let catalog = database.catalog();
+    match plan(alloc, migrate, catalog)? {
         Ok(plan) => match oversize(alloc, database, plan.sources.as_slice())? {
             Some(refusal) => Ok(Reversal::Refused(refusal)),
-            None => unless_lossy(alloc, &plan, database.catalog()),
+            None => unless_lossy(alloc, &plan, catalog),
         },
         Err(refusal) => Ok(Reversal::Refused(refusal)),
     }
@@ -75,8 +76,9 @@ fn run_each(
     replies: &mut Vec<Reply>,
 ) -> Result<(), Memory>
     requires { AllByRecursion (λ s. IsWholeGroup true (s ∷ [])) statements.now }
-    ensures ok { OnOk result ((replies.new.items, database.new)
-        ≡ (replies.old.items ++ (ran_each database.old statements.now).0, (ran_each database.old statements.now).1)) }
+    ensures answers { OnOk result (replies.new.items
+        ≡ replies.old.items ++ (ran_each database.old statements.now).0) }
+    ensures last { OnOk result (database.new ≡ (ran_each database.old statements.now).1) }
     ensures err { OnErr result (HasRun database.old statements.now database.new) }
 {
     for statement in statements {
@@ -110,7 +112,7 @@ pub fn undo(
         return Ok(None);
     };
     let first = vec![in alloc; Statement::Migrate(migrate.copy(alloc)?)]?;
-    let mut replies = Vec::with_capacity(alloc, inverse.len() + 1)?;
+    let mut replies = Vec::new(alloc);
     run_each(database, first.as_slice(), &mut replies)?;
     run_each(database, inverse.as_slice(), &mut replies)?;
     Ok(Some(replies))

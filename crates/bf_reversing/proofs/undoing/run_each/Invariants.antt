@@ -4,4 +4,7 @@ use Rattle.bf_reversing.proofs.undoing.run_each.Given as goal
 
 -- the statements so far have run
 abbrev pub invariant-loop-statement : goal.invariant-loop-statement
-invariant-loop-statement l = (l.replies.items, l.database) ≡ (l.fn.replies.items ++ (ran_each l.fn.database (take l.statement-index l.statements)).0, (ran_each l.fn.database (take l.statement-index l.statements)).1)
+invariant-loop-statement l = record {
+  answers : l.replies.items ≡ l.fn.replies.items ++ (ran_each l.fn.database (take l.statement-index l.statements)).0;
+  last : l.database ≡ (ran_each l.fn.database (take l.statement-index l.statements)).1;
+}
