@@ -74,8 +74,8 @@ module _ (a b : Database) (same : (name : List ℕ) → table_under a name ≡ t
         ∙ map_same (index_back a) (index_back b) (λ rule. ap (λ (table : Table). index_on table rule) (table_alike rule.table)) (filter (λ (rule : IndexRule). has same_name (sources_of m) rule.table) b.indexes))
 
 -- the catalog of a database has what is true of each
-pub is_bare : (db : Database) (catalog : Catalog) → catalog ≡ catalog_of db → IsDatabase db → IsDatabase (without_rows catalog)
-is_bare db catalog same is = subst (λ (catalog : Catalog). IsDatabase (without_rows catalog)) (sym same) (bare_is_database db is)
+pub bare_of : (db : Database) (catalog : Catalog) → catalog ≡ catalog_of db → IsDatabase db → IsDatabase (without_rows catalog)
+bare_of db catalog same is = subst (λ (catalog : Catalog). IsDatabase (without_rows catalog)) (sym same) (bare_is_database db is)
 
 -- on a database, by the plan in its catalog
 module _ (db : Database) (catalog : Catalog) (same : catalog ≡ catalog_of db) (m : Migrate) where

@@ -1,3 +1,4 @@
+pub mod Answering
 pub mod Catalogued
 pub mod Grouping
 pub mod Lasts

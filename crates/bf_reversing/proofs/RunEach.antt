@@ -18,7 +18,7 @@ use Rattle.bf_eager.specs.Eager.{Ran, ran_entry}
 use Rattle.bf_inverse.specs.Inverses.{inverse_of}
 use Rattle.bf_inverse.specs.Undone.{CanBeUndone, HasArms, HasCreatedIndexes, IsTakenBack, first_objection, is_refusal, run_each, there_and_back, undone}
 use Rattle.bf_inverse.specs.Wholes.{first_lossy}
-use Rattle.bf_reverse.specs.Reversals.{reversal_on, unless_lossy, unless_refused}
+use Rattle.bf_reverse.specs.Reversals.{reversal_on, unless_lossy, unless_refused as refused_else}
 use Rattle.bf_reverse.specs.declared.reversal.Reversal.{Reversal}
 use Rattle.bf_reverse.specs.declared.reversal.Reversal.TheVariants.{Inverse}
 use Rattle.bf_reversing.specs.Runs.{HasRun, HasRunFront, HasUndone, ran_each}
@@ -122,7 +122,7 @@ pub way_back : (db : Database) (m : Migrate) (inverse : List Statement) → Inve
 way_back db m inverse is = of (first_objection db m) refl (first_lossy db m) refl is
   where
     of : (objection : Option Refusal) → first_objection db m ≡ objection → (lossy : Option (List ℕ)) → first_lossy db m ≡ lossy
-        → Inverse inverse ≡ unless_refused objection (unless_lossy lossy (inverse_of db m)) → IsWayBack db m inverse
+        → Inverse inverse ≡ refused_else objection (unless_lossy lossy (inverse_of db m)) → IsWayBack db m inverse
     of None allowed None whole is = let same : inverse ≡ inverse_of db m = cc in record { can = record { allowed = allowed; whole = whole }; is = same }
     of None allowed (Some source) whole is = absurd cc
     of (Some refusal) allowed lossy whole is = absurd cc
@@ -131,7 +131,7 @@ pub no_way_back : (db : Database) (m : Migrate) (reversal : Reversal) → revers
     → IsTrue (is_some (first_objection db m)) ⊎ IsTrue (is_some (first_lossy db m))
 no_way_back db m reversal is none = of (first_objection db m) (first_lossy db m) is
   where
-    of : (objection : Option Refusal) (lossy : Option (List ℕ)) → reversal ≡ unless_refused objection (unless_lossy lossy (inverse_of db m))
+    of : (objection : Option Refusal) (lossy : Option (List ℕ)) → reversal ≡ refused_else objection (unless_lossy lossy (inverse_of db m))
         → IsTrue (is_some objection) ⊎ IsTrue (is_some lossy)
     of None None is = absurd (none (inverse_of db m) is)
     of None (Some source) is = inr refl

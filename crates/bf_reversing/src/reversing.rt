@@ -41,10 +41,11 @@ fn told_of_migrate(alloc: Global, script: &Script, migrate: &Migrate) -> Result<
         ≡ told_of_migrate script.now migrate.now) }
 {
     let entries = entries_of(alloc, script)?;
-    if end_in_block(entries.as_slice()) {
+    let groups = entries.as_slice();
+    if end_in_block(groups) {
         return told_refused(alloc, Refusal::MustBeAlone);
     }
-    let database = database_behind(alloc, script, but_last(entries.as_slice()))?;
+    let database = database_behind(alloc, script, but_last(groups))?;
     let reversal = reverse_on(alloc, &database, migrate)?;
     told_by(alloc, reversal)
 }

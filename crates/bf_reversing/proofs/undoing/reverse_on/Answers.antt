@@ -6,12 +6,12 @@ use Rattle.bf_sql.specs.RowObjections.{first_oversize}
 use Rattle.bf_sql.specs.migrations.Plans.{plan_of}
 use Rattle.bf_reverse.specs.declared.reversal.Reversal.{Reversal}
 use Rattle.bf_reverse.proofs.Placing.{named_sources, sources_of_plan}
-use Rattle.bf_reversing.proofs.Catalogued.{is_bare, on_oversize, on_planned, on_refused}
+use Rattle.bf_reversing.proofs.Catalogued.{bare_of, on_oversize, on_planned, on_refused}
 use Rattle.bf_reversing.proofs.undoing.reverse_on.Goals as goal
 
 pub unless_lossy-requires-clause-database : goal.unless_lossy-requires-clause-database
 unless_lossy-requires-clause-database c =
-    is_bare c.args.database.now.database c.catalog-catalog.result.now c.catalog-catalog.ensures.catalog c.catalog-catalog.ensures.database
+    bare_of c.args.database.now.database c.catalog-catalog.result.now c.catalog-catalog.ensures.catalog c.catalog-catalog.ensures.database
 
 pub unless_lossy-requires-clause-sources : goal.unless_lossy-requires-clause-sources
 unless_lossy-requires-clause-sources c =
