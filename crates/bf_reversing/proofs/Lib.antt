@@ -1,5 +1,6 @@
 pub mod Answering
 pub mod Catalogued
+pub mod Ending
 pub mod Grouping
 pub mod Lasts
 pub mod Migrates
