@@ -1,5 +1,5 @@
 -- What is told of a MIGRATE by its way back.
-use Rattle.std.proofs.Common.{◌≡◌, ◌+◌, ◌<◌, ◌≤◌, ℕ, List, length, Option, None, Some, Result, Ok, Err, inl, inr, refl, ap, ◌∙◌, arith, length-append}
+use Rattle.std.proofs.Common.{◌≡◌, ◌+◌, ◌<◌, ◌≤◌, ℕ, List, length, Option, None, Some, Result, Err, inl, inr, refl, ap, ◌∙◌, arith, length-append}
 use Rattle.std.specs.Io.KnownBytes.{IsAtEnd}
 use Rattle.bf_base.specs.Limits.{longest_script}
 use Rattle.bf_io.specs.Whole.{IfTold, ReadPast}

@@ -1,8 +1,7 @@
 -- The way back reads tables without their rows, and index rules.
-use Rattle.std.proofs.Common.{◌≡◌, ℕ, Bool, true, false, not, cond, List, [], ◌∷◌, ◌++◌, map, filter, find, flat_map, length, Option, Some, None, Ok, Err, unwrap_or, refl, sym, ap, ap₂, subst, ◌∙◌, option_map, if◌then◌else◌}
+use Rattle.std.proofs.Common.{◌≡◌, ℕ, Bool, not, cond, List, [], ◌∷◌, map, filter, find, Option, Some, None, Ok, Err, unwrap_or, refl, sym, ap, ap₂, subst, ◌∙◌, option_map, if◌then◌else◌}
 use Rattle.bf_base.specs.Lists.{has, same_name}
 use Rattle.bf_base.specs.declared.table.Table.{Table}
-use Rattle.bf_tree.specs.Settling.{first_of}
 use Rattle.bf_tree.specs.declared.catalog.IndexRule.{IndexRule}
 use Rattle.bf_tree.specs.declared.migration.Arm.{Arm}
 use Rattle.bf_tree.specs.declared.migration.Migrate.{Migrate}

@@ -1,5 +1,5 @@
 -- How a call ends whose answer was written, whole or in part.
-use Rattle.std.proofs.Common.{◌≡◌, ℕ, Bool, true, false, cond, List, Option, Some, None, inl, inr, refl, sym, ap, ◌∙◌}
+use Rattle.std.proofs.Common.{◌≡◌, ℕ, Bool, true, false, cond, List, Option, Some, None, inl, inr, refl, ap, ◌∙◌}
 use Rattle.std.specs.Io.KnownBytes.{Appends}
 use Rattle.std.proofs.lemmas.Bool.{false≢true}
 use Rattle.bf_tree.specs.declared.migration.Migrate.{Migrate}
@@ -12,7 +12,7 @@ use Rattle.bf_inverse.specs.Inverses.{inverse_of}
 use Rattle.bf_inverse.specs.Undone.{first_objection}
 use Rattle.bf_inverse.specs.Wholes.{first_lossy}
 use Rattle.bf_reversing.specs.Befores.{database_before, ends_in_block, last_statement}
-use Rattle.bf_reversing.specs.Outcomes.{IsAnswer, IsCalm, IsInputTold, IsOutcome, Stream, Told, asked, read, read_fault, told_no_migrate, told_of, told_of_last, told_of_migrate, told_on, told_refused, told_unless_lossy, told_unless_refused, usage}
+use Rattle.bf_reversing.specs.Outcomes.{IsAnswer, IsCalm, IsOutcome, Stream, Told, asked, read, read_fault, told_of, told_of_last, told_on, told_refused, told_unless_lossy, told_unless_refused, usage}
 use Rattle.bf_reversing.specs.declared.status.ReverseStatus.{ReverseStatus}
 use Rattle.bf_reversing.specs.declared.status.ReverseStatus.TheVariants as status
 

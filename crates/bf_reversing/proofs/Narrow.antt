@@ -1,15 +1,14 @@
 -- The statements of an inverse keep the limits of the language.
-use Rattle.std.proofs.Common.{◌≡◌, ℕ, zero, suc, ◌+◌, ◌<◌, ◌≤◌, Bool, true, false, ◌&&◌, List, [], ◌∷◌, ◌++◌, map, filter, flat_map, length, Option, Some, None, unwrap_or, refl, sym, ap, ap₂, ◌∙◌, arith, nat_le, nat_lt, option_map}
+use Rattle.std.proofs.Common.{◌≡◌, ℕ, suc, ◌≤◌, true, false, List, [], ◌∷◌, map, filter, flat_map, length, Option, Some, None, unwrap_or, refl, ap, ◌∙◌, arith, nat_le, nat_lt, option_map}
 use Rattle.std.specs.List.{AllByRecursion, enumerate_from, list_all}
 use Rattle.std.proofs.lemmas.Bool.{and_from, and_parts}
 use Rattle.std.proofs.lemmas.Bool.Decides.{nat_tests}
-use Rattle.std.proofs.lemmas.List.{length-append, length-map}
+use Rattle.std.proofs.lemmas.List.{length-map}
 use Rattle.std.proofs.lemmas.List.FromFn.{length-enumerate_from}
-use Rattle.bf_base.specs.Limits.{longest_script, most_columns, most_drivers}
+use Rattle.bf_base.specs.Limits.{most_columns, most_drivers}
 use Rattle.bf_base.specs.Lists.{has, same_name}
-use Rattle.bf_base.specs.declared.table.Column.{Column}
 use Rattle.bf_base.specs.declared.table.Table.{Table}
-use Rattle.bf_tree.specs.Limits.{HasNarrowTables, IsNarrowMigrate, has_small_arms, is_narrow, most_targets}
+use Rattle.bf_tree.specs.Limits.{HasNarrowTables, IsNarrowMigrate, has_small_arms, is_narrow}
 use Rattle.bf_tree.specs.declared.catalog.IndexRule.{IndexRule}
 use Rattle.bf_tree.specs.declared.migration.Migrate.{Migrate}
 use Rattle.bf_tree.specs.declared.statement.Statement.{Statement}

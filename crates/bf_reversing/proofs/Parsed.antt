@@ -1,5 +1,5 @@
 -- What holds of each script that a text spells: no table is wider than a table may be.
-use Rattle.std.proofs.Common.{◌≡◌, ℕ, suc, ◌+◌, ◌≤◌, ◌⊎◌, inl, inr, Bool, true, nat_le, List, [], ◌∷◌, ◌++◌, length, refl, sym, subst, arith, length-append, Ok, IsTrue}
+use Rattle.std.proofs.Common.{◌≡◌, ℕ, suc, ◌+◌, ◌≤◌, ◌⊎◌, inl, inr, Bool, true, List, [], ◌∷◌, ◌++◌, length, refl, sym, subst, arith, length-append, Ok, IsTrue}
 use Rattle.std.specs.List.{list_all}
 use Rattle.std.specs.Option.{is_none}
 use Rattle.std.proofs.lemmas.Bool.{and_parts, and_from, le-leb}

@@ -1,7 +1,7 @@
 -- Statements that are run one after the other, and a MIGRATE with its inverse behind it.
-use Rattle.std.proofs.Common.{◌≡◌, ◌⊎◌, inl, inr, IsTrue, ℕ, zero, suc, ◌+◌, ◌<◌, Bool, true, false, not, List, [], ◌∷◌, ◌++◌, map, flat_map, length, take, Option, Some, None, is_some, refl, sym, ap, ap₂, ◌∙◌, arith, append_assoc, get_or}
+use Rattle.std.proofs.Common.{◌≡◌, ◌⊎◌, inl, inr, IsTrue, ℕ, zero, suc, ◌+◌, ◌<◌, true, false, not, List, [], ◌∷◌, ◌++◌, length, take, Option, Some, None, is_some, refl, sym, ap, ap₂, ◌∙◌, arith, append_assoc, get_or}
 use Rattle.std.specs.Prelude.{OnErr, Result, Ok, Err}
-use Rattle.std.specs.List.{AllByRecursion, list_all}
+use Rattle.std.specs.List.{list_all}
 use Rattle.std.proofs.lemmas.List.{take_more}
 use Rattle.bf_tree.specs.declared.migration.Migrate.{Migrate}
 use Rattle.bf_tree.specs.declared.reply.Refusal.{Refusal}
@@ -11,9 +11,7 @@ use Rattle.bf_tree.specs.declared.statement.Statement.{Statement}
 use Rattle.bf_tree.specs.declared.statement.Statement.TheVariants as statement
 use Rattle.bf_sql.specs.Database.{Database, IsDatabase}
 use Rattle.bf_sql.specs.Meaning.{effect, executed, unless_refused}
-use Rattle.bf_sql.specs.RowObjections.{size_objections}
 use Rattle.bf_sql.specs.migrations.Images.{flipped}
-use Rattle.bf_sql.specs.migrations.MigrationObjections.{migrate_objections, sources_of}
 use Rattle.bf_eager.specs.Eager.{Ran, ran_entry}
 use Rattle.bf_inverse.specs.Inverses.{inverse_of}
 use Rattle.bf_inverse.specs.Undone.{CanBeUndone, HasArms, HasCreatedIndexes, IsTakenBack, first_objection, is_refusal, run_each, there_and_back, undone}

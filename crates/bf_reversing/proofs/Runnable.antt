@@ -1,5 +1,5 @@
 -- The groups of a script within the limits can be run, and what each leaves is what a replay makes of it.
-use Rattle.std.proofs.Common.{◌≡◌, ℕ, zero, suc, ◌+◌, ◌-◌, ◌≤◌, Bool, true, false, List, [], ◌∷◌, ◌++◌, map, length, get_or, refl, sym, ap, subst, ◌∙◌, append_assoc, length-append, arith, IsTrue}
+use Rattle.std.proofs.Common.{◌≡◌, ℕ, suc, ◌+◌, ◌≤◌, Bool, true, false, List, [], ◌∷◌, ◌++◌, map, length, get_or, refl, sym, ap, subst, ◌∙◌, append_assoc, length-append, arith}
 use Rattle.std.specs.List.{AllByRecursion, enumerate_from, flat_map, list_all}
 use Rattle.std.proofs.lemmas.Bool.{and_parts}
 use Rattle.bf_base.specs.Lists.{part}
@@ -7,13 +7,11 @@ use Rattle.bf_tree.specs.Limits.{IsNarrowIfMigrate, is_narrow_statement}
 use Rattle.bf_tree.specs.declared.history.Entry.{Entry}
 use Rattle.bf_tree.specs.declared.history.Outcome.{Outcome}
 use Rattle.bf_tree.specs.declared.history.Outcome.TheVariants.{Committed, RolledBack}
-use Rattle.bf_tree.specs.declared.reply.Reply.{Reply}
 use Rattle.bf_tree.specs.declared.script.Script.{Script}
 use Rattle.bf_tree.specs.declared.script.Session.{Session}
 use Rattle.bf_tree.specs.declared.statement.Statement.{Statement}
-use Rattle.bf_sql.specs.Database.{Database}
 use Rattle.bf_sql.specs.Groups.{commits, groups_of, no_session, session_at, statements_of}
-use Rattle.bf_sql.specs.History.{commits_with, replayed_behind}
+use Rattle.bf_sql.specs.History.{replayed_behind}
 use Rattle.bf_eager.specs.Eager.{IsWholeGroup, Ran, outcome_of, ran_entry}
 use Rattle.bf_reversing.specs.Befores.{IsWithinLimits, entries_of, entry_of, session_entries}
 use Rattle.bf_reversing.specs.Entries.{IsRunnable, is_committed}

@@ -1,5 +1,5 @@
 -- The groups of a session are whole: what each has of the session is a group by itself.
-use Rattle.std.proofs.Common.{◌≡◌, ℕ, ◌+◌, ◌-◌, ◌≤◌, Bool, true, false, ◌&&◌, List, [], ◌∷◌, ◌++◌, length, take, drop, Option, None, Some, refl, sym, ap, subst, ◌∙◌, append_assoc, append-nil, length-append, arith, IsTrue}
+use Rattle.std.proofs.Common.{◌≡◌, ℕ, ◌+◌, ◌-◌, ◌≤◌, Bool, true, false, List, [], ◌∷◌, ◌++◌, length, take, drop, None, Some, refl, sym, ap, subst, ◌∙◌, append_assoc, append-nil, length-append, arith}
 use Rattle.std.specs.List.{AllByRecursion, list_all, list_any}
 use Rattle.std.proofs.lemmas.Bool.{and_parts, false≢true, or_parts}
 use Rattle.std.proofs.lemmas.List.Folds.{list_all-append, list_any-append}
@@ -137,7 +137,7 @@ module _ (text : List Statement) where
   left_open : Inside []
   left_open front body n b split inner first e = (
     group_in text front (Begin ∷ body) [] b (n - 1) (split ∙ ap (λ (ts : List Statement). front ++ (Begin ∷ ts)) (append-nil body ∙ sym (append-nil body)))
-    first (omega arith) (omega arith) (open_group body inner),
+        first (omega arith) (omega arith) (open_group body inner),
     tt,
   )
 

@@ -1,9 +1,8 @@
-use Rattle.std.proofs.Common.{◌≡◌, ◌+◌, ◌∷◌, List, drop, get_or, length, sym, ap, ◌∙◌, refl}
+use Rattle.std.proofs.Common.{◌+◌, List, drop, get_or, sym, ap, ◌∙◌, refl}
 use Rattle.std.proofs.lemmas.List.{drop_all, drop_more}
 use Rattle.bf_tree.specs.declared.history.Entry.{Entry}
 use Rattle.bf_tree.specs.declared.history.Outcome.TheVariants.{Committed}
-use Rattle.bf_sql.specs.Database.{Database, empty_database}
-use Rattle.bf_sql.specs.History.{replayed, replayed_behind}
+use Rattle.bf_sql.specs.History.{replayed_behind}
 use Rattle.bf_eager.specs.Eager.{Ran}
 use Rattle.bf_reversing.specs.Entries.{IsRunnable}
 use Rattle.bf_reversing.proofs.Lasts.{all_got}

@@ -1,5 +1,4 @@
 use Rattle.std.proofs.Common.{◌≡◌, ◌++◌, ◌∷◌, [], length, ap, ◌∙◌, false, arith}
-use Rattle.bf_reversing.specs.declared.groups.Group.{Group}
 use Rattle.bf_reversing.proofs.Grouping.{groups_begin, groups_closed, groups_open, some_statement}
 use Rattle.bf_reversing.proofs.groups.groups_of.Goals as goal
 

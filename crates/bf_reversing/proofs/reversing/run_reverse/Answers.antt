@@ -1,4 +1,3 @@
-use Rattle.std.proofs.Common.{◌≡◌}
 use Rattle.bf_reversing.proofs.Ending.{ends_whole}
 use Rattle.bf_reversing.proofs.reversing.run_reverse.Goals as goal
 

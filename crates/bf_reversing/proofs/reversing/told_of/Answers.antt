@@ -1,4 +1,4 @@
-use Rattle.std.proofs.Common.{◌≡◌, Option, Some, sym, ap, ◌∙◌}
+use Rattle.std.proofs.Common.{Option, Some, sym, ap, ◌∙◌}
 use Rattle.bf_tree.specs.declared.statement.Statement.{Statement}
 use Rattle.bf_reversing.proofs.Migrates.{last_migrate}
 use Rattle.bf_reversing.proofs.reversing.told_of.Goals as goal

@@ -1,4 +1,4 @@
-use Rattle.std.proofs.Common.{◌≡◌, ℕ, List, length, Err, sym, ap, ◌∙◌}
+use Rattle.std.proofs.Common.{ℕ, List, length, Err, sym, ap, ◌∙◌}
 use Rattle.std.proofs.lemmas.Result.{IfOk-weaker}
 use Rattle.bf_reversing.proofs.Answering.{no_fault, read_whole, too_long}
 use Rattle.bf_reversing.proofs.reversing.told_of_input.Goals as goal

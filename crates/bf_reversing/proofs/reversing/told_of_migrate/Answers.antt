@@ -1,6 +1,5 @@
-use Rattle.std.proofs.Common.{◌≡◌, ◌-◌, length, sym, ap, subst, ◌∙◌}
+use Rattle.std.proofs.Common.{◌-◌, length, sym, ap, subst, ◌∙◌}
 use Rattle.std.specs.List.{AllByRecursion}
-use Rattle.bf_tree.specs.declared.history.Entry.{Entry}
 use Rattle.bf_reversing.specs.Befores.{all_but_last, entries_of}
 use Rattle.bf_reversing.specs.Entries.{IsRunnable}
 use Rattle.bf_reversing.proofs.Lasts.{all_in_front}

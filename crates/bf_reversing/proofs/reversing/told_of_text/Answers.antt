@@ -1,4 +1,4 @@
-use Rattle.std.proofs.Common.{◌≡◌, Err, inl, sym, ap, ◌∙◌}
+use Rattle.std.proofs.Common.{Err, inl, ap, ◌∙◌}
 use Rattle.std.proofs.lemmas.Result.{IfOk-weaker}
 use Rattle.bf_reversing.proofs.Migrates.{script_within}
 use Rattle.bf_reversing.proofs.reversing.told_of_text.Goals as goal

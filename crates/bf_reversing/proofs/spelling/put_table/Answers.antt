@@ -1,4 +1,4 @@
-use Rattle.std.proofs.Common.{◌≡◌, ◌++◌}
+use Rattle.std.proofs.Common.{◌++◌}
 use Rattle.std.specs.Prelude.{codes}
 use Rattle.bf_reversing.specs.Spellings.{table_text}
 use Rattle.bf_reversing.proofs.Texts.{left_as, three_pieces}

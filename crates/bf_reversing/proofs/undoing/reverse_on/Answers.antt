@@ -1,9 +1,8 @@
 -- What is planned in the database's catalog has the way back of the MIGRATE, unless a source has too many rows.
-use Rattle.std.proofs.Common.{◌≡◌, List, ℕ, Ok, Some, None, sym, ap, subst, ◌∙◌}
+use Rattle.std.proofs.Common.{◌≡◌, Some, None, sym, ap, subst, ◌∙◌}
 use Rattle.std.specs.Prelude.{IfOk}
 use Rattle.bf_sql.specs.Bound.{without_rows}
 use Rattle.bf_sql.specs.RowObjections.{first_oversize}
-use Rattle.bf_sql.specs.migrations.Plans.{plan_of}
 use Rattle.bf_reverse.specs.declared.reversal.Reversal.{Reversal}
 use Rattle.bf_reverse.proofs.Placing.{named_sources, sources_of_plan}
 use Rattle.bf_reversing.proofs.Catalogued.{bare_of, on_oversize, on_planned, on_refused}

@@ -1,6 +1,5 @@
-use Rattle.std.proofs.Common.{◌≡◌, ◌+◌, ◌++◌, ◌∷◌, [], List, true, take, sym, ap, ap₂, ◌∙◌, append_assoc}
+use Rattle.std.proofs.Common.{◌+◌, ◌++◌, ◌∷◌, [], List, true, take, sym, ap, ap₂, ◌∙◌, append_assoc}
 use Rattle.bf_tree.specs.declared.reply.Reply.{Reply}
-use Rattle.bf_tree.specs.declared.statement.Statement.{Statement}
 use Rattle.bf_eager.specs.Eager.{Ran, ran_entry}
 use Rattle.bf_reversing.specs.Runs.{HasRun, ran_each}
 use Rattle.bf_reversing.proofs.RunEach.{at_err, one_ran, ran_more}

@@ -17,7 +17,7 @@ returns-in_err-run_each-clause-err c =
     let m = c.args.migrate.now in
     let now = c.run_each.new.database in
     let first : c.as_slice.result.now ≡ statement.Migrate m ∷ [] =
-        c.as_slice.ensures.value ∙ c.in_ok-first.ensures.items ∙ ap (λ (k : Migrate). statement.Migrate k ∷ []) c.in_ok-copy.ensures in
+    c.as_slice.ensures.value ∙ c.in_ok-first.ensures.items ∙ ap (λ (k : Migrate). statement.Migrate k ∷ []) c.in_ok-copy.ensures in
     at_err c.from_residual-in_err-run_each.result (HasRunFront old m now)
     (front_first old now m (subst (λ (ss : List Statement). HasRun old ss now) first c.in_err-run_each.ensures.err))
 
@@ -37,7 +37,7 @@ returns-in_err-run_each-2-clause-err c =
     let now = c.run_each-2.new.database in
     let way = way_back old.database m c.in-Inverse.inverse (sym c.in-Inverse.is ∙ c.in_ok-inverse.ensures.reversal) in
     let first : c.as_slice.result.now ≡ statement.Migrate m ∷ [] =
-        c.as_slice.ensures.value ∙ c.in_ok-first.ensures.items ∙ ap (λ (k : Migrate). statement.Migrate k ∷ []) c.in_ok-copy.ensures in
+    c.as_slice.ensures.value ∙ c.in_ok-first.ensures.items ∙ ap (λ (k : Migrate). statement.Migrate k ∷ []) c.in_ok-copy.ensures in
     at_err c.from_residual-in_err-run_each-2.result (HasRunFront old m now)
     (front_behind old between now m (c.in_ok-run_each.ensures.last ∙ ap (λ (ss : List Statement). (ran_each old ss).1) first)
     (subst (λ (ss : List Statement). HasRun between ss now) (c.as_slice-2.ensures ∙ way.is) c.in_err-run_each-2.ensures.err))
@@ -50,7 +50,7 @@ returns-clause-answer c =
     let now = c.run_each-2.new.database in
     let way = way_back old.database m c.in-Inverse.inverse (sym c.in-Inverse.is ∙ c.in_ok-inverse.ensures.reversal) in
     let first : c.as_slice.result.now ≡ statement.Migrate m ∷ [] =
-        c.as_slice.ensures.value ∙ c.in_ok-first.ensures.items ∙ ap (λ (k : Migrate). statement.Migrate k ∷ []) c.in_ok-copy.ensures in
+    c.as_slice.ensures.value ∙ c.in_ok-first.ensures.items ∙ ap (λ (k : Migrate). statement.Migrate k ∷ []) c.in_ok-copy.ensures in
     let later : c.as_slice-2.result.now ≡ inverse_of old.database m = c.as_slice-2.ensures ∙ way.is in
     has_undone old c.in_ok-inverse.ensures.database c.requires.indexes m c.requires.arms way.can c.run_each-2.new.replies.items now
     (both_ran old between now m (inverse_of old.database m) c.run_each.new.replies.items c.run_each-2.new.replies.items

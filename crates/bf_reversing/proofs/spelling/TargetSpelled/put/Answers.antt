@@ -1,4 +1,4 @@
-use Rattle.std.proofs.Common.{◌≡◌, ◌++◌, List, map, ap, ◌∙◌}
+use Rattle.std.proofs.Common.{◌++◌, List, map, ap, ◌∙◌}
 use Rattle.std.specs.Prelude.{codes}
 use Rattle.bf_tree.specs.declared.migration.Arm.{Arm}
 use Rattle.bf_reversing.specs.Spellings.{arm_text, table_text, target_text, with_between}
