@@ -13,7 +13,7 @@ last_is (x ∷ y ∷ xs) =
     last_is (y ∷ xs) ∙ sym (ap (slice_get (x ∷ y ∷ xs)) e)
 
 -- the last of a list behind another
-last_behind : {X : Type 0} (xs ys : List X) (y : X) → last_of (xs ++ y ∷ ys) ≡ last_of (y ∷ ys)
+pub last_behind : {X : Type 0} (xs ys : List X) (y : X) → last_of (xs ++ y ∷ ys) ≡ last_of (y ∷ ys)
 last_behind [] ys y = refl
 last_behind (x ∷ []) ys y = refl
 last_behind (x ∷ z ∷ xs) ys y = last_behind (z ∷ xs) ys y

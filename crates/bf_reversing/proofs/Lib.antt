@@ -2,6 +2,7 @@ pub mod Answering
 pub mod Catalogued
 pub mod Ending
 pub mod Grouping
+pub mod LastGroup
 pub mod Lasts
 pub mod Migrates
 pub mod Narrow

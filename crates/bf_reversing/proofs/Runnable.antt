@@ -28,7 +28,7 @@ session_behind : (front rest : List Session) (s : Session) → get_or (front ++ 
 session_behind [] rest s = refl
 session_behind (t ∷ front) rest s = session_behind front rest s
 
-session_in : (front rest : List Session) (s : Session) (k : ℕ) → k ≡ length front + 1 → get_or (no_session ∷ (front ++ s ∷ rest)) k no_session ≡ s
+pub session_in : (front rest : List Session) (s : Session) (k : ℕ) → k ≡ length front + 1 → get_or (no_session ∷ (front ++ s ∷ rest)) k no_session ≡ s
 session_in front rest s k e = let next : k ≡ suc (length front) = omega arith in ap (λ (i : ℕ). get_or (no_session ∷ (front ++ s ∷ rest)) i no_session) next ∙ session_behind front rest s
 
 committed_by : (b : Bool) → is_committed (outcome_of b) ≡ b

@@ -4,6 +4,7 @@
 
 mod before;
 mod groups;
+pub mod laws;
 pub mod reversing;
 mod spelling;
 pub mod status;
