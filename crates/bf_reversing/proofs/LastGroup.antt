@@ -1,9 +1,8 @@
 -- A MIGRATE that ends a script ends its last group.
-use Rattle.std.proofs.Common.{◌≡◌, ℕ, zero, suc, ◌+◌, ◌-◌, ◌<◌, ◌≤◌, false, List, [], ◌∷◌, ◌++◌, map, length, take, drop, get_or, Option, Some, None, refl, sym, ap, ap₂, subst, ◌∙◌, append_assoc, append-nil, length-append, length-drop, nat_lt, arith}
+use Rattle.std.proofs.Common.{◌≡◌, ℕ, ◌+◌, ◌-◌, ◌≤◌, false, List, [], ◌∷◌, ◌++◌, map, length, take, drop, get_or, Some, None, refl, sym, ap, ap₂, subst, ◌∙◌, append-nil, length-append, length-drop, nat_lt, arith}
 use Rattle.std.specs.List.{AllByRecursion, enumerate_from, flat_map}
 use Rattle.std.proofs.lemmas.Bool.Decides.{nat_tests}
 use Rattle.std.proofs.lemmas.List.{drop-append-le, drop_all, map-append, take_all}
-use Rattle.std.proofs.Math.Seq.{drop-append_seam}
 use Rattle.bf_base.specs.Lists.{part}
 use Rattle.bf_tree.specs.declared.history.Entry.{Entry}
 use Rattle.bf_tree.specs.declared.migration.Migrate.{Migrate}
@@ -13,7 +12,7 @@ use Rattle.bf_tree.specs.declared.statement.Statement.{Statement}
 use Rattle.bf_tree.specs.declared.statement.Statement.TheVariants as statement
 use Rattle.bf_tree.specs.declared.statement.Statement.TheVariants.{Begin, Commit, Rollback}
 use Rattle.bf_sql.specs.Groups.{groups_from, groups_of, no_session, session_at, statements_of}
-use Rattle.bf_reversing.specs.Befores.{entries_of, entry_of, is_block, last_of, last_statement, session_entries}
+use Rattle.bf_reversing.specs.Befores.{entry_of, last_of, last_statement, session_entries}
 use Rattle.bf_reversing.specs.LastGroups.{EndsLastGroup}
 use Rattle.bf_reversing.proofs.Lasts.{last_behind}
 use Rattle.bf_reversing.proofs.Runnable.{session_in}
@@ -159,15 +158,15 @@ ends_last_group script m is =
     let at = (both_end m l.text.front).0 1 in
     let long : length text ≡ 1 + length l.text.front = ap (λ (ss : List Statement). length ss) l.text.is ∙ length-append l.text.front (statement.Migrate m ∷ []) ∙ (let same : length l.text.front + 1 ≡ 1 + length l.text.front = omega arith in same) in
     let groups : groups_of l.session.statements ≡ at.front ++ (at.began, length l.session.statements) ∷ [] =
-        ap groups_of l.text.is ∙ at.is ∙ ap (λ (i : ℕ). at.front ++ (at.began, i) ∷ []) (sym long) in
+    ap groups_of l.text.is ∙ at.is ∙ ap (λ (i : ℕ). at.front ++ (at.began, i) ∷ []) (sym long) in
     let own : IsGroupIn l.session.statements (at.began, length l.session.statements) =
-        of_last (IsGroupIn l.session.statements) at.front (at.began, length l.session.statements) (subst (AllByRecursion (IsGroupIn l.session.statements)) groups (groups_in_text l.session.statements)) in
+    of_last (IsGroupIn l.session.statements) at.front (at.began, length l.session.statements) (subst (AllByRecursion (IsGroupIn l.session.statements)) groups (groups_in_text l.session.statements)) in
     let there : session_at script k ≡ l.session =
-        ap (λ (ss : List Session). get_or (no_session ∷ ss) (1 + length l.before) no_session) l.split ∙ session_in l.before l.after l.session (1 + length l.before) (let same : 1 + length l.before ≡ length l.before + 1 = omega arith in same) in
+    ap (λ (ss : List Session). get_or (no_session ∷ ss) (1 + length l.before) no_session) l.split ∙ session_in l.before l.after l.session (1 + length l.before) (let same : 1 + length l.before ≡ length l.before + 1 = omega arith in same) in
     let entry : Entry = entry_of (1 + length l.before) l.session.statements (at.began, length l.session.statements) in
     let stands : statements_of script (entry_of (1 + length l.before) l.session.statements (at.began, length l.session.statements)) ≡ drop (at.began - 1) l.text.front ++ statement.Migrate m ∷ [] =
-        ap (λ (s : Session). part at.began (length l.session.statements) s.statements) there
-        ∙ last_part l.session.statements l.text.front (statement.Migrate m) at.began (length l.session.statements) l.text.is own.first own.order refl in
+    ap (λ (s : Session). part at.began (length l.session.statements) s.statements) there
+    ∙ last_part l.session.statements l.text.front (statement.Migrate m) at.began (length l.session.statements) l.text.is own.first own.order refl in
     record {
       entry = entry;
       last =

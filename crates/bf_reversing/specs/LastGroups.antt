@@ -1,5 +1,5 @@
 -- The group that a script ends with.
-use Rattle.std.specs.Prelude.{◌≡◌, List, [], ◌∷◌, false, Option, Some}
+use Rattle.std.specs.Prelude.{◌≡◌, [], ◌∷◌, false, Some}
 use Rattle.bf_tree.specs.declared.history.Entry.{Entry}
 use Rattle.bf_tree.specs.declared.script.Script.{Script}
 use Rattle.bf_tree.specs.declared.statement.Statement.{Statement}
