@@ -10,6 +10,7 @@
 #![tactic(auto)]
 
 mod calls;
+mod limits;
 mod narrow;
 mod pen;
 mod random;

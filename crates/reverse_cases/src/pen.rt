@@ -1,5 +1,7 @@
 //! Text that is written with choices drawn from a seed.
 
+ghost use Rattle.std.specs.Prelude.{◌≤◌};
+
 use std::alloc::{AllocError, Global};
 
 /// A text as far as it is written, and the seed of what is drawn next.
@@ -19,18 +21,20 @@ impl Pen {
         }
     }
 
-    /// The next number below a limit, of a linear congruential generator.
-    pub fn draw(&mut self, limit: usize) -> usize {
+    /// The next number below a limit, of a linear congruential generator; 0 where the limit is.
+    pub fn draw(&mut self, limit: usize) -> usize
+        ensures { result ≤ limit }
+    {
         let next = self.seed.wrapping_mul(6_364_136_223_846_793_005);
         self.seed = next.wrapping_add(1_442_695_040_888_963_407);
         let drawn = (self.seed >> 33) as usize;
-        drawn.checked_rem(limit).unwrap_or(0)
+        if limit == 0 { 0 } else { drawn % limit }
     }
 
     /// Items in another order.
     pub fn shuffled<T: Drop>(&mut self, mut items: Vec<T>) -> Result<Vec<T>, AllocError> {
         let mut shuffled = Vec::new(self.alloc);
-        while !items.is_empty() {
+        for _ in 0..items.len() {
             let place = self.draw(items.len());
             if place < items.len() {
                 shuffled.push(items.swap_remove(place))?;

@@ -122,7 +122,7 @@ fn query(
                 query,
                 "t{}.c{column} AS c{}",
                 table.number,
-                (column + 1) % 5
+                column.wrapping_add(1) % 5
             )?,
         }
         between = ", ";
@@ -155,7 +155,7 @@ fn queries(
     queries.push(query(alloc, pen, table, first)?)?;
     if splits {
         queries.push(query(alloc, pen, table, second)?)?;
-        counts.split += 1;
+        counts.split = counts.split.saturating_add(1);
     }
     Ok(queries)
 }
@@ -174,7 +174,7 @@ fn put_migrate(
         match names.pop() {
             Some(name) if takes_old => {
                 write!(pen.text, "t{name}")?;
-                counts.onto += 1;
+                counts.onto = counts.onto.saturating_add(1);
             }
             _ => write!(pen.text, "n{number}")?,
         }
@@ -197,7 +197,7 @@ fn draw_script(alloc: Global, seed: u64, counts: &mut Counts) -> Result<String, 
         let place = pen.draw(tables.len());
         if let Some(table) = tables.get(place) {
             put_index(&mut pen, number, table)?;
-            counts.indexes += 1;
+            counts.indexes = counts.indexes.saturating_add(1);
         }
     }
     // The first tables leave, and the others stay.

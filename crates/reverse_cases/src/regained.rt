@@ -1,11 +1,13 @@
 //! Whether what `reverse` writes takes a MIGRATE back.
 
+use crate::limits::{have_arms, have_different_columns};
 use crate::seen::{run, seen_of};
-use anyhow::bail;
+use anyhow::{Context, bail};
 use bf_eager::{Eager, is_narrow};
 use bf_parse::script;
 use bf_reversing::undo;
 use bf_tree::{Migrate, Reply, Script, Statement};
+use random_scripts::group::{ends_block, whole_commits};
 use std::alloc::Global;
 
 /// The script of a text.
@@ -23,32 +25,32 @@ fn read_back(alloc: Global, statements: &[u8]) -> anyhow::Result<Script> {
     read(alloc, text.as_slice())
 }
 
+/// Runs a whole group of statements.
+fn run_group(database: &mut Eager, statements: &[Statement]) -> anyhow::Result<()> {
+    let Some(commits) = whole_commits(statements) else {
+        bail!("no whole group");
+    };
+    database.run_entry(statements, commits)?;
+    Ok(())
+}
+
 /// Runs the groups of statements, one after the other. A COMMIT or ROLLBACK in no group is left out.
 fn run_all(database: &mut Eager, statements: &[Statement]) -> anyhow::Result<()> {
-    let mut from = 0;
-    while from < statements.len() {
-        let mut end = from + 1;
-        let mut commits = true;
-        match &statements[from] {
-            Statement::Commit | Statement::Rollback => {
-                from = end;
-                continue;
-            }
-            Statement::Begin => {
-                commits = false;
-                while end < statements.len() && !commits {
-                    commits = matches!(&statements[end], Statement::Commit);
-                    let rolls_back = matches!(&statements[end], Statement::Rollback);
-                    end += 1;
-                    if rolls_back {
-                        break;
-                    }
-                }
-            }
-            _ => {}
+    let mut began = None;
+    for (index, statement) in statements.iter().enumerate() {
+        let ends = ends_block(statement);
+        let first = began.unwrap_or(index);
+        let begins = matches!(statement, Statement::Begin);
+        if !ends && (begins || began.is_some()) {
+            began = Some(first);
+        } else if !ends || began.is_some() {
+            let group = statements.get(first..index + 1).context("no group")?;
+            run_group(database, group)?;
+            began = None;
         }
-        database.run_entry(&statements[from..end], commits)?;
-        from = end;
+    }
+    if let Some(first) = began {
+        run_group(database, statements.get(first..).context("no group")?)?;
     }
     Ok(())
 }
@@ -91,8 +93,11 @@ fn expect_allowed(replies: &[Reply]) -> anyhow::Result<()> {
 fn expect_undone(alloc: Global, script: &Script) -> anyhow::Result<()> {
     let (mut database, migrate) = before(alloc, script)?;
     let old = seen_of(alloc, &mut database)?;
-    if !is_narrow(migrate) {
-        bail!("a MIGRATE is too large");
+    if !is_narrow(migrate) || !have_arms(migrate.targets.as_slice()) {
+        bail!("a MIGRATE is none of a script");
+    }
+    if !have_different_columns(database.catalog()) {
+        bail!("an index names a column twice");
     }
     match undo(alloc, &mut database, migrate)? {
         Some(replies) => expect_allowed(replies.as_slice())?,
