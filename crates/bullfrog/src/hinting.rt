@@ -1,15 +1,17 @@
 //! What people are told of a status on standard error. Nothing is promised of it.
 
+use crate::parts::Ended;
 use bf_hints::{file_hint, script_hint, usage_hint};
+use bf_reversing::ReverseStatus;
 use bf_run::Status;
 use std::alloc::Global;
 use std::io;
 use std::io::Eprint;
 
-/// A status, and what people are told of it beside its text.
+/// The number of a status, and what people are told of it beside its text.
 #[derive(Drop)]
 pub struct Told {
-    pub status: Status,
+    pub number: u8,
     hint: Option<String>,
 }
 
@@ -17,14 +19,16 @@ pub struct Told {
 /// can't be made.
 fn hint_of(
     alloc: Global,
-    status: Status,
+    ended: &Ended,
     text: Option<&[u8]>,
     said: Option<io::Error>,
 ) -> Option<String> {
-    let hint = match status {
-        Status::Usage => usage_hint(alloc),
-        Status::Script(fault) => script_hint(alloc, text?, fault),
-        Status::DiskFault => file_hint(alloc, said?),
+    let hint = match ended {
+        Ended::Bullfrog(Status::Usage) | Ended::Reverse(ReverseStatus::Usage) => usage_hint(alloc),
+        Ended::Bullfrog(Status::Script(fault)) | Ended::Reverse(ReverseStatus::Script(fault)) => {
+            script_hint(alloc, text?, *fault)
+        }
+        Ended::Bullfrog(Status::DiskFault) => file_hint(alloc, said?),
         _ => return None,
     };
     hint.ok()
@@ -32,16 +36,19 @@ fn hint_of(
 
 impl Told {
     /// What is told of a status, by the text that was read and what the system said of a file, as far as these are known.
-    pub fn of(alloc: Global, status: Status, text: Option<&[u8]>, said: Option<io::Error>) -> Told {
+    pub fn of(alloc: Global, ended: &Ended, text: Option<&[u8]>, said: Option<io::Error>) -> Told {
         Told {
-            status,
-            hint: hint_of(alloc, status, text, said),
+            number: ended.number(),
+            hint: hint_of(alloc, ended, text, said),
         }
     }
 
     /// A status of which people are told no more.
     pub fn without_hint(status: Status) -> Told {
-        Told { status, hint: None }
+        Told {
+            number: status.number(),
+            hint: None,
+        }
     }
 
     /// Writes the hint to standard error. A failed write is passed over.

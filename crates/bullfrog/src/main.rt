@@ -1,18 +1,21 @@
 //! `bullfrog run LOG [--workers N] [--retries N] [--finish] [--audit]` runs the script of standard input over the database
 //! that a log keeps, and prints its report;
 //! `bullfrog try` does over an empty database, which is not kept; `bullfrog create LOG` makes an empty log in a file
-//! that is new or empty. Behind a status that is not 0 standard error may have a hint, of which nothing is promised.
+//! that is new or empty; `bullfrog reverse` prints the statements that take the MIGRATE back that ends the script of standard
+//! input. Behind a status that is not 0 standard error may have a hint, of which nothing is promised.
 #![tactic(auto)]
 
 mod filing;
 mod hinting;
+mod parts;
 mod progress;
 mod reading;
 mod shelving;
 mod writing;
 
-use bf_run::{Gate, Status, bullfrog};
+use bf_run::{Gate, Status};
 use hinting::Told;
+use parts::program;
 use progress::Progress;
 use reading::Reading;
 use shelving::FileShelf;
@@ -46,7 +49,7 @@ where
     let mut source = Reading::new(rt.alloc(), rt.reader());
     let mut sink = Writing::new(io::writer(rt));
     let mut shelf = FileShelf::new(rt);
-    let status = bullfrog(
+    let ended = program(
         rt,
         rt.alloc(),
         words,
@@ -55,7 +58,7 @@ where
         &mut shelf,
         gate,
     );
-    Told::of(rt.alloc(), status, source.given(), shelf.said())
+    Told::of(rt.alloc(), &ended, source.given(), shelf.said())
 }
 
 /// Words that are not UTF-8 are served as none, which are wrong too.
@@ -78,5 +81,5 @@ fn main(rt: HostRuntime) -> ExitCode {
     let told = run(&rt, &progress);
     progress.end();
     told.show(&rt);
-    ExitCode::from(told.status.number())
+    ExitCode::from(told.number)
 }
