@@ -1,0 +1,3 @@
+pub mod Counting
+pub mod Grouping
+pub mod Tables

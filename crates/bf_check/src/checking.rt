@@ -1,0 +1,72 @@
+//! Whether a report is accepted.
+
+use crate::order::Order;
+use crate::replay::Replay;
+use crate::{audit, rest};
+use bf_base::Memory;
+use bf_report::{Reading, ReportError, read_report};
+use bf_tree::Script;
+use bf_verdict::{LONGEST_REPORT, Verdict};
+use std::alloc::Global;
+
+/// What is told of a report that was read.
+fn judge(
+    alloc: Global,
+    start: &Script,
+    script: &Script,
+    report: &[u8],
+    reading: &Reading,
+) -> Result<Verdict, Memory>
+    ghost parts: { Parts }
+    requires reading { IsReadingOf script.now report.now parts reading.now }
+    requires start { IsWithinLimits start.now }
+    requires script { IsWithinLimits script.now }
+    ensures { IfOk result (λ verdict.
+        Judges (database_behind start.now) script.now report.now verdict) }
+{
+    let mut order = Order::of(alloc, script)?;
+    if let Some(entry) = order.enter_all(reading.entries.as_slice())? {
+        return Ok(Verdict::BadEntry(entry));
+    }
+    let mut replay = Replay::behind(alloc, start)?;
+    for entry in &reading.entries {
+        if let Some(statement) = replay.run(script, report, reading, entry)? {
+            return Ok(Verdict::BadReply(entry.session, statement));
+        }
+    }
+    if let Some((session, statement)) = rest::first_wrong(report, reading, &order)? {
+        return Ok(Verdict::BadRest(session, statement));
+    }
+    let lines = &report[reading.audit as usize..];
+    match audit::first_wrong(alloc, &replay.database, lines)? {
+        Some(name) => Ok(Verdict::BadAudit(name)),
+        None => Ok(Verdict::Yes),
+    }
+}
+
+/// What is told of a report of a script, over the database that the transactions of `start` leave, one session after
+/// the other: that it is accepted, or the first thing for which it is not. It takes time linear in the report, beside
+/// what the one-thread database takes for the transactions; and memory for the database and less than the report's.
+///
+/// # Errors
+/// Where memory runs out, or a table has 2 ^ 32 rows or more.
+pub fn check(
+    alloc: Global,
+    start: &Script,
+    script: &Script,
+    report: &[u8],
+) -> Result<Verdict, Memory>
+    requires start { IsWithinLimits start.now }
+    requires script { IsWithinLimits script.now }
+    ensures { IfOk result (λ verdict.
+        Judges (database_behind start.now) script.now report.now verdict) }
+{
+    if report.len() > LONGEST_REPORT as usize {
+        return Ok(Verdict::NotAReport(LONGEST_REPORT));
+    }
+    match read_report(alloc, script, report) {
+        Ok(reading) => judge(alloc, start, script, report, &reading),
+        Err(ReportError::NoReport(at)) => Ok(Verdict::NotAReport(at)),
+        Err(ReportError::Memory) => Err(Memory),
+    }
+}
