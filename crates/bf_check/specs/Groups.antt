@@ -1,11 +1,13 @@
 -- The groups of a session as they are found.
 use Rattle.std.specs.Prelude.{◌≡◌, ℕ, ◌+◌, ◌≤◌, Bool, true, false, not, List, [], ◌∷◌, ◌++◌, length, map, drop, Option, None, Some, IsTrue}
 use Rattle.std.specs.List.{list_all}
+use Rattle.std.specs.Ordering.{nat_cmp}
 use Rattle.bf_tree.specs.declared.statement.Statement.{Statement}
 use Rattle.bf_tree.specs.declared.statement.Statement.TheVariants.{Begin, Commit, Rollback}
-use Rattle.bf_base.specs.Lists.{part}
+use Rattle.bf_base.specs.Lists.{part, rises}
 use Rattle.bf_sql.specs.Groups.{commits, ends_block, groups_from, groups_of}
 use Rattle.bf_check.specs.declared.groups.Group.{Group}
+use Rattle.bf_check.specs.declared.order.Listed.{Listed}
 
 -- a group, and whether it commits
 abbrev pub group_at : List Statement → ℕ × ℕ → Group
@@ -13,6 +15,14 @@ group_at ss group = record { first = group.0; last = group.1; commits = commits 
 
 abbrev pub groups_found : List Statement → List Group
 groups_found ss = map (group_at ss) (groups_of ss)
+
+-- the groups of a session before the first entry
+abbrev pub unlisted : List Statement → List Listed
+unlisted ss = map (λ group. record { group = group; is_entered = false }) (groups_found ss)
+
+-- groups whose first statements rise
+abbrev pub AreListed : List Listed → Type 0
+AreListed groups = IsTrue (rises nat_cmp (map (λ listed. listed.group.first) groups))
 
 -- whether a statement ends a block, and then whether the block commits
 abbrev pub block_end_of : Statement → Option Bool

@@ -1,8 +1,12 @@
 //! Whether the entries of a report are transactions of the script, in an order that it allows, and end as it has them.
 
-ghost use Rattle.std.specs.Prelude.{[], IfOk};
+ghost use Rattle.std.specs.Prelude.{◌≡◌, ℕ, ◌+◌, List, [], length, IfOk};
+ghost use Rattle.std.specs.Ordering.{nat_cmp};
+ghost use Rattle.std.specs.List.Sorted.{IsBinarySearchResult, IsSearchInRange};
+ghost use Rattle.bf_tree.specs.declared.history.Entry.{Entry as EntryTold};
 ghost use Rattle.bf_tree.specs.declared.script.Script.{Script as ScriptTold};
-ghost use Rattle.bf_check.specs.Judging.{EntersAll, IsOrderBehind};
+ghost use Rattle.bf_check.specs.Groups.{AreListed};
+ghost use Rattle.bf_check.specs.Judging.{EntersAll, EntersGroup, EntersOne, IsOrderBehind, IsPlaceOf, unlisted};
 
 use crate::groups::{Group, counted, groups_of};
 use bf_base::Memory;
@@ -16,16 +20,39 @@ pub(crate) struct Listed {
     pub is_entered: bool,
 }
 
-/// The transactions of a session. Entries to come can be of those from a place on.
+/// The place of the transaction that begins at a statement, or else where it would stand.
+fn find(groups: &[Listed], first: u32) -> Result<usize, usize>
+    ensures bound { IsSearchInRange result (length groups.now) }
+    ensures position { IsBinarySearchResult (λ listed. nat_cmp listed.group.first first) groups.now result }
+{
+    groups.binary_search_by(|listed| listed.group.first.cmp(&first))
+}
+
+/// The place of the transaction with these statements. `None` exactly where there is none.
+fn place_of(groups: &[Listed], first: u32, last: u32) -> Option<usize>
+    requires { AreListed groups.now }
+    ensures { IsPlaceOf groups.now first last result }
+{
+    match find(groups, first) {
+        Ok(place) if groups[place].group.last == last => Some(place),
+        _ => None,
+    }
+}
+
+/// The transactions of a session, and the last statement that an entry reaches.
 #[derive(Debug, Drop)]
 pub(crate) struct SessionGroups {
     phase: u32,
     pub groups: Vec<Listed>,
-    next: usize,
+    reached: u32,
 }
 
 impl SessionGroups {
-    fn of(alloc: Global, session: &Session) -> Result<SessionGroups, Memory> {
+    /// Before the first entry.
+    fn of(alloc: Global, session: &Session) -> Result<SessionGroups, Memory>
+        ensures { IfOk result (λ found. found.phase ≡ session.now.phase
+            × (found.groups.items ≡ unlisted session.now.statements) × (found.reached ≡ 0)) }
+    {
         let found = groups_of(alloc, session.statements.as_slice())?;
         let mut groups = Vec::with_capacity(alloc, found.len())?;
         for group in found {
@@ -37,25 +64,31 @@ impl SessionGroups {
         Ok(SessionGroups {
             phase: session.phase,
             groups,
-            next: 0,
+            reached: 0,
         })
     }
 
     /// Enters the transaction with these statements, and answers whether it commits. `None` exactly where there is none
     /// with them behind the last one that was entered.
-    fn enter(&mut self, first: u32, last: u32) -> Option<bool> {
-        while let Some(listed) = self.groups.get_mut(self.next) {
-            self.next += 1;
-            if listed.group.first == first && listed.group.last == last {
-                listed.is_entered = true;
-                return Some(listed.group.commits);
-            }
+    fn enter(&mut self, first: u32, last: u32) -> Option<bool>
+        requires { AreListed self.old.groups.items }
+        ensures { EntersGroup self.old self.new first last result }
+    {
+        if first <= self.reached {
+            return None;
         }
-        None
+        let place = place_of(self.groups.as_slice(), first, last)?;
+        let group = self.groups[place].group;
+        self.groups[place] = Listed {
+            group,
+            is_entered: true,
+        };
+        self.reached = last;
+        Some(group.commits)
     }
 }
 
-/// The transactions of a script, and how far its entries were looked through.
+/// The transactions of a script, the latest phase of an entry, and how many entries commit.
 #[derive(Debug, Drop)]
 pub(crate) struct Order {
     pub sessions: Vec<SessionGroups>,
@@ -80,40 +113,56 @@ impl Order {
     }
 
     /// The outcome of a transaction that is next to end, by whether it commits.
-    fn outcome(&mut self, commits: bool) -> Outcome {
+    ///
+    /// # Errors
+    /// Where 2 ^ 64 would have committed.
+    fn outcome(&self, commits: bool) -> Result<Outcome, Memory>
+        ensures { IfOk result (λ outcome. outcome ≡ (outcome_by commits (self.now.commits + 1)).0) }
+    {
         if !commits {
-            return Outcome::RolledBack;
+            return Ok(Outcome::RolledBack);
         }
-        self.commits = self.commits.saturating_add(1);
-        Outcome::Committed(self.commits)
+        let number = self.commits.checked_add(1).ok_or(Memory)?;
+        Ok(Outcome::Committed(number))
     }
 
     /// Enters a transaction, and answers whether it may stand behind those that were entered.
-    fn enter(&mut self, entry: &Entry) -> bool {
+    fn enter(&mut self, entry: &Entry) -> Result<bool, Memory>
+        ensures { IfOk result (λ stands. (script : ScriptTold) (entries : List EntryTold)
+            → MayStand script entries → IsOrderBehind script entries self.old
+            → EntersOne script entries entry.now self.new stands) }
+    {
         let Some(index) = (entry.session as usize).checked_sub(1) else {
-            return false;
+            return Ok(false);
         };
         let Some(session) = self.sessions.get_mut(index) else {
-            return false;
+            return Ok(false);
         };
         if session.phase < self.phase {
-            return false;
+            return Ok(false);
         }
-        self.phase = session.phase;
-        match session.enter(entry.first, entry.last) {
-            Some(commits) => self.outcome(commits) == entry.outcome,
-            None => false,
+        let phase = session.phase;
+        let Some(commits) = session.enter(entry.first, entry.last) else {
+            return Ok(false);
+        };
+        let outcome = self.outcome(commits)?;
+        if outcome != entry.outcome {
+            return Ok(false);
         }
+        self.phase = phase;
+        if let Outcome::Committed(number) = outcome {
+            self.commits = number;
+        }
+        Ok(true)
     }
 
     /// Enters transactions in turn. The number of the first that may not stand behind those before it, if there is one.
     pub fn enter_all(&mut self, entries: &[Entry]) -> Result<Option<u32>, Memory>
-        ghost script: { ScriptTold }
-        requires { IsOrderBehind script [] self.old }
-        ensures { IfOk result (EntersAll script entries.now self.new) }
+        ensures { IfOk result (λ bad. (script : ScriptTold) → IsOrderBehind script [] self.old
+            → EntersAll script entries.now self.new bad) }
     {
         for (index, entry) in entries.iter().enumerate() {
-            if !self.enter(entry) {
+            if !self.enter(entry)? {
                 return Ok(Some(counted(index)?));
             }
         }

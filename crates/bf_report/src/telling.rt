@@ -3,9 +3,13 @@
 //! Each function answers what stands behind a text of which it is told, and `None` exactly where another text stands
 //! there. None takes memory, and each takes time linear in what it compares.
 
-ghost use Rattle.std.specs.Prelude.{◌++◌, ℕ, List, codes, flat_map, length, map, option_copied};
+ghost use Rattle.std.specs.Prelude.{◌++◌, ℕ, Bool, true, List, codes, flat_map, length, map, option_copied, IfSome, IsTrue};
+ghost use Rattle.std.specs.List.{list_all};
 ghost use Rattle.std.specs.Fmt.{decimal, signed_decimal};
-ghost use Rattle.bf_report.specs.Behind.{IsBehind};
+ghost use Rattle.bf_base.specs.Names.{is_name};
+ghost use Rattle.bf_report.specs.Behind.{IsBehind, refusal_fits, reply_is_told};
+ghost use Rattle.bf_text.specs.Numbers.{are_u64, numbers_in, numbers_in_cause, numbers_in_cell, numbers_in_value};
+ghost use Rattle.bf_tree.specs.declared.reply.Reply.TheVariants.{Rows};
 ghost use Rattle.bf_text.specs.Replies.{body_text, cause_text, cell_text, listed, newline, numbered, place_text, quoted, refusal_text, reply_text, row_line, value_text};
 
 use bf_base::{Name, Sequence, Value};
@@ -51,7 +55,8 @@ pub(crate) fn behind_numbered<'a>(text: &'a [u8], words: &[u8], number: u64) -> 
 /// Behind words before a name.
 #[tactic(auto, using(crate::proofs::Behind::telling))]
 fn behind_named<'a>(text: &'a [u8], words: &[u8], name: &Name) -> Option<&'a [u8]>
-    ensures { IsBehind (words.now ++ name.now) text.now (option_copied result) }
+    ensures text { IsBehind (words.now ++ name.now) text.now (option_copied result) }
+    ensures short { IfSome result (λ _. IsTrue (is_name name.now)) }
 {
     behind(behind(text, words)?, name.as_bytes())
 }
@@ -65,8 +70,9 @@ fn behind_named_numbered<'a>(
     further: &[u8],
     number: u64,
 ) -> Option<&'a [u8]>
-    ensures { IsBehind ((words.now ++ name.now) ++ numbered further.now number)
+    ensures text { IsBehind ((words.now ++ name.now) ++ numbered further.now number)
         text.now (option_copied result) }
+    ensures short { IfSome result (λ _. IsTrue (is_name name.now)) }
 {
     behind_numbered(behind_named(text, words, name)?, further, number)
 }
@@ -78,14 +84,19 @@ trait Told {
 
     ghost text: { Self.At → Self → List ℕ };
 
+    /// Whether its numbers have at most 64 bits.
+    ghost is_short: { Self → Bool };
+
     /// Behind its text.
     fn behind_it<'a>(&self, bytes: &'a [u8], at: Self::At) -> Option<&'a [u8]>
-        ensures { IsBehind (text at self.now) bytes.now (option_copied result) };
+        ensures text { IsBehind (text at self.now) bytes.now (option_copied result) }
+        ensures short { IfSome result (λ _. IsTrue (is_short self.now)) };
 }
 
 /// Behind the texts of things, with nothing between.
 fn behind_each<'a, T: Told>(text: &'a [u8], at: T::At, things: &[T]) -> Option<&'a [u8]>
-    ensures { IsBehind (flat_map (T.text at) things.now) text.now (option_copied result) }
+    ensures text { IsBehind (flat_map (T.text at) things.now) text.now (option_copied result) }
+    ensures short { IfSome result (λ _. IsTrue (list_all T.is_short things.now)) }
 {
     let mut rest = text;
     for thing in things {
@@ -97,15 +108,17 @@ fn behind_each<'a, T: Told>(text: &'a [u8], at: T::At, things: &[T]) -> Option<&
 /// Behind the text of a thing, and a comma and a space before it.
 #[tactic(auto, using(crate::proofs::Behind::telling))]
 fn behind_comma<'a, T: Told>(text: &'a [u8], at: T::At, thing: &T) -> Option<&'a [u8]>
-    ensures { IsBehind (codes ", " ++ T.text at thing.now) text.now (option_copied result) }
+    ensures text { IsBehind (codes ", " ++ T.text at thing.now) text.now (option_copied result) }
+    ensures short { IfSome result (λ _. IsTrue (T.is_short thing.now)) }
 {
     thing.behind_it(behind(text, b", ")?, at)
 }
 
 /// Behind the texts of things, each behind a comma and a space.
 fn behind_further<'a, T: Told>(text: &'a [u8], at: T::At, things: &[T]) -> Option<&'a [u8]>
-    ensures { IsBehind (flat_map (λ y. codes ", " ++ y) (map (T.text at) things.now))
+    ensures text { IsBehind (flat_map (λ y. codes ", " ++ y) (map (T.text at) things.now))
         text.now (option_copied result) }
+    ensures short { IfSome result (λ _. IsTrue (list_all T.is_short things.now)) }
 {
     let mut rest = text;
     for thing in things {
@@ -117,7 +130,8 @@ fn behind_further<'a, T: Told>(text: &'a [u8], at: T::At, things: &[T]) -> Optio
 /// Behind the texts of things, with a comma and a space between.
 #[tactic(auto, using(crate::proofs::Behind::telling))]
 fn behind_listed<'a, T: Told>(text: &'a [u8], at: T::At, things: &[T]) -> Option<&'a [u8]>
-    ensures { IsBehind (listed (map (T.text at) things.now)) text.now (option_copied result) }
+    ensures text { IsBehind (listed (map (T.text at) things.now)) text.now (option_copied result) }
+    ensures short { IfSome result (λ _. IsTrue (list_all T.is_short things.now)) }
 {
     match things {
         [] => Some(text),
@@ -131,6 +145,8 @@ impl Told for u8 {
 
     ghost text = { λ _. quoted };
 
+    ghost is_short = { λ _. true };
+
     fn behind_it<'a>(&self, bytes: &'a [u8], _at: ()) -> Option<&'a [u8]> {
         if *self == b'\'' {
             return behind(bytes, b"''");
@@ -143,6 +159,8 @@ impl Told for Value {
     type At = ();
 
     ghost text = { λ _. value_text };
+
+    ghost is_short = { λ value. are_u64 (numbers_in_value value) };
 
     fn behind_it<'a>(&self, bytes: &'a [u8], _at: ()) -> Option<&'a [u8]> {
         match self {
@@ -160,6 +178,8 @@ impl Told for Cell {
 
     ghost text = { λ _. cell_text };
 
+    ghost is_short = { λ cell. are_u64 (numbers_in_cell cell) };
+
     fn behind_it<'a>(&self, bytes: &'a [u8], at: ()) -> Option<&'a [u8]> {
         match self {
             Cell::Value(value) => value.behind_it(bytes, at),
@@ -171,7 +191,8 @@ impl Told for Cell {
 /// Behind a refusal.
 #[tactic(auto, using(crate::proofs::Behind::telling))]
 fn behind_refusal<'a>(text: &'a [u8], refusal: &Refusal) -> Option<&'a [u8]>
-    ensures { IsBehind (refusal_text refusal.now) text.now (option_copied result) }
+    ensures text { IsBehind (refusal_text refusal.now) text.now (option_copied result) }
+    ensures short { IfSome result (λ _. IsTrue (refusal_fits refusal.now)) }
 {
     match refusal {
         Refusal::NoTable(name) => behind_named(text, b"E1 no table ", name),
@@ -208,7 +229,8 @@ fn behind_refusal<'a>(text: &'a [u8], refusal: &Refusal) -> Option<&'a [u8]>
 /// Behind a cause.
 #[tactic(auto, using(crate::proofs::Behind::telling))]
 fn behind_cause(text: &[u8], cause: Cause) -> Option<&[u8]>
-    ensures { IsBehind (cause_text cause) text.now (option_copied result) }
+    ensures text { IsBehind (cause_text cause) text.now (option_copied result) }
+    ensures short { IfSome result (λ _. IsTrue (are_u64 (numbers_in_cause cause))) }
 {
     match cause {
         Cause::Died(holder) => behind_numbered(text, b"died older ", holder),
@@ -244,6 +266,8 @@ impl Told for Sequence<Cell> {
 
     ghost text = { λ place. row_line place.session place.statement };
 
+    ghost is_short = { λ row. list_all (λ cell. are_u64 (numbers_in_cell cell)) row };
+
     fn behind_it<'a>(&self, bytes: &'a [u8], at: Place) -> Option<&'a [u8]> {
         let rest = behind(behind_place(bytes, at)?, b" | ")?;
         behind(behind_listed(rest, (), self.as_slice())?, b"\n")
@@ -253,9 +277,10 @@ impl Told for Sequence<Cell> {
 /// Behind the number of rows, and their lines.
 #[tactic(auto, using(crate::proofs::Behind::telling))]
 fn behind_rows<'a>(text: &'a [u8], place: Place, rows: &[Sequence<Cell>]) -> Option<&'a [u8]>
-    ensures { IsBehind (numbered (codes "rows ") (length rows.now) ++ newline
+    ensures text { IsBehind (numbered (codes "rows ") (length rows.now) ++ newline
         ++ flat_map (row_line place.session place.statement) rows.now)
         text.now (option_copied result) }
+    ensures short { IfSome result (λ _. IsTrue (are_u64 (numbers_in (Rows rows.now)))) }
 {
     behind_each(
         behind_count(text, b"rows ", rows.len() as u64)?,
@@ -267,8 +292,9 @@ fn behind_rows<'a>(text: &'a [u8], place: Place, rows: &[Sequence<Cell>]) -> Opt
 /// Behind a reply without its place.
 #[tactic(auto, using(crate::proofs::Behind::telling))]
 fn behind_body<'a>(text: &'a [u8], place: Place, reply: &Reply) -> Option<&'a [u8]>
-    ensures { IsBehind (body_text place.session place.statement reply.now)
+    ensures text { IsBehind (body_text place.session place.statement reply.now)
         text.now (option_copied result) }
+    ensures short { IfSome result (λ _. IsTrue (reply_is_told reply.now)) }
 {
     match reply {
         Reply::Created => behind(text, b"created\n"),
@@ -289,8 +315,9 @@ fn behind_body<'a>(text: &'a [u8], place: Place, reply: &Reply) -> Option<&'a [u
 /// reply. Takes no memory, and time linear in the reply's text.
 #[tactic(auto, using(crate::proofs::Behind::telling))]
 pub fn behind_reply<'a>(text: &'a [u8], place: Place, reply: &Reply) -> Option<&'a [u8]>
-    ensures { IsBehind (reply_text place.session place.statement reply.now)
+    ensures text { IsBehind (reply_text place.session place.statement reply.now)
         text.now (option_copied result) }
+    ensures short { IfSome result (λ _. IsTrue (reply_is_told reply.now)) }
 {
     behind_body(behind(behind_place(text, place)?, b" ")?, place, reply)
 }

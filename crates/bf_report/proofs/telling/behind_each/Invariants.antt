@@ -1,6 +1,7 @@
 use Rattle.std.proofs.Common.{◌≡◌, ◌++◌, take}
-use Rattle.std.specs.List.{flat_map}
+use Rattle.std.specs.Prelude.{IsTrue}
+use Rattle.std.specs.List.{flat_map, list_all}
 use Rattle.bf_report.proofs.telling.behind_each.Given as goal
 
 abbrev pub invariant-loop-thing : goal.invariant-loop-thing
-invariant-loop-thing g l = l.text ≡ flat_map (g.T.Told.text l.at) (take l.thing-index l.things) ++ l.rest
+invariant-loop-thing g l = record { text : l.text ≡ flat_map (g.T.Told.text l.at) (take l.thing-index l.things) ++ l.rest; short : IsTrue (list_all g.T.Told.is_short (take l.thing-index l.things)) }
