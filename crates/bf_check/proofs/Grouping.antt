@@ -73,7 +73,7 @@ part_more : (ss : List Statement) (b index : ℕ) (s : Statement) → 1 ≤ b �
 part_more ss b index s first order below at =
     between_more ss (b - 1) index s (omega arith) below ∙ ap (λ (z : Statement). part b index ss ++ z ∷ []) (sym at)
 
-part_alone : (ss : List Statement) (index : ℕ) (s : Statement) → index < length ss → s ≡ get_or ss index s → part (index + 1) (index + 1) ss ≡ s ∷ []
+pub part_alone : (ss : List Statement) (index : ℕ) (s : Statement) → index < length ss → s ≡ get_or ss index s → part (index + 1) (index + 1) ss ≡ s ∷ []
 part_alone ss index s below at =
     let last : (index + 1) - 1 ≡ index = omega arith in
     let none : part (index + 1) index ss ≡ [] = ap (λ (m : ℕ). between m index ss) last ∙ between_none ss index in

@@ -1,5 +1,5 @@
 -- ON THE WAY to a verdict: what is found of entries, replies and tables.
-use Rattle.std.specs.Prelude.{◌≡◌, ◌≢◌, ℕ, ◌+◌, Bool, ◌&&◌, ◌==◌, nat_le, max, List, [], ◌∷◌, ◌++◌, length, map, fold, take_while, zip, Option, None, Some, ⊤}
+use Rattle.std.specs.Prelude.{◌≡◌, ◌≢◌, ℕ, ◌+◌, ◌<◌, Bool, true, false, ◌&&◌, ◌==◌, if◌then◌else◌, max, List, [], ◌∷◌, ◌++◌, length, map, zip, slice_index_or, slice_set, Option, None, Some, ⊤}
 use Rattle.std.specs.List.{AllByRecursion, list_any}
 use Rattle.bf_sql.specs.Database.{Database}
 use Rattle.bf_sql.specs.Groups.{groups_of, session_at, statements_of}
@@ -39,32 +39,73 @@ pub record Audited : Type 0 where
 
 -- whether one of some entries is of a group of session s
 abbrev pub is_entered : List Entry → ℕ → ℕ × ℕ → Bool
-is_entered entries s group = list_any (λ e. e.session == s && e.first == group.0 && e.last == group.1) entries
+is_entered entries s group = list_any (λ e. e.session == s && e.first == group.0) entries
 
 abbrev pub listed : List Entry → ℕ → List Statement → ℕ × ℕ → Listed
 listed entries s ss group = record { group = group_at ss group; is_entered = is_entered entries s group }
 
--- whether one of them ends at a group of session s, or behind it
-abbrev pub is_reached : List Entry → ℕ → ℕ × ℕ → Bool
-is_reached entries s group = list_any (λ e. e.session == s && nat_le group.0 e.last) entries
+-- the last statement of session s that some entries reach
+abbrev pub reach_of : ℕ → Entry → ℕ
+reach_of s e = if e.session == s then e.last else 0
 
--- session s behind some entries: which of its groups they are of, and how many they reach
+abbrev pub reached_in : ℕ → List Entry → ℕ
+reached_in s [] = 0
+reached_in s (e ∷ es) = max (reach_of s e) (reached_in s es)
+
+-- the latest phase of an entry
+abbrev pub phase_of : Script → Entry → ℕ
+phase_of script e = (session_at script e.session).phase
+
+abbrev pub latest_phase : Script → List Entry → ℕ
+latest_phase script [] = 0
+latest_phase script (e ∷ es) = max (phase_of script e) (latest_phase script es)
+
+-- session s behind some entries: which of its groups they are of, and how far they reach
 pub record IsSessionBehind (entries : List Entry) (s : ℕ) (session : Session) (found : SessionGroups) : Type 0 where
   pub phase : found.phase ≡ session.phase
   pub groups : found.groups.items ≡ map (listed entries s session.statements) (groups_of session.statements)
-  pub reached : found.next ≡ length (take_while (is_reached entries s) (groups_of session.statements))
-
--- the sessions from s on
-abbrev pub AreSessionsBehind : List Entry → ℕ → List Session → List SessionGroups → Type 0
-AreSessionsBehind entries s [] [] = ⊤
-AreSessionsBehind entries s (session ∷ sessions) (found ∷ more) = IsSessionBehind entries s session found × AreSessionsBehind entries (s + 1) sessions more
-AreSessionsBehind entries s sessions found = ⊥
+  pub reached : found.reached ≡ reached_in s entries
 
 -- BEHIND entries: the sessions, the latest phase of an entry, and how many commit
 pub record IsOrderBehind (script : Script) (entries : List Entry) (order : Order) : Type 0 where
-  pub sessions : AreSessionsBehind entries 1 script.sessions order.sessions.items
-  pub phase : order.phase ≡ fold max 0 (map (λ e. (session_at script e.session).phase) entries)
+  pub count : length order.sessions.items ≡ length script.sessions
+  pub sessions : (i : ℕ) (d : SessionGroups) → i < length order.sessions.items
+      → IsSessionBehind entries (i + 1) (session_at script (i + 1)) (slice_index_or order.sessions.items i d)
+  pub phase : order.phase ≡ latest_phase script entries
   pub commits : order.commits ≡ commits_of entries
+
+-- it is behind some entries of a script
+abbrev pub IsSomeOrder : Order → Type 0
+IsSomeOrder order = (script : Script) × (entries : List Entry) × IsOrderBehind script entries order
+
+-- the place of the group with these statements, if there is one
+abbrev pub IsPlaceOf : List Listed → ℕ → ℕ → Option ℕ → Type 0
+IsPlaceOf groups first last None =
+    (k : ℕ) (d : Listed) → k < length groups → (slice_index_or groups k d).group.first ≡ first → (slice_index_or groups k d).group.last ≡ last → ⊥
+IsPlaceOf groups first last (Some place) =
+    (place < length groups)
+    × ((d : Listed) → ((slice_index_or groups place d).group.first ≡ first) × ((slice_index_or groups place d).group.last ≡ last))
+
+-- the group at a place was entered, which commits or not
+pub record EntersAt (old new : SessionGroups) (first last : ℕ) (committing : Bool) : Type 0 where
+  pub behind : old.reached < first
+  pub place : ℕ
+  pub within : place < length old.groups.items
+  pub is : (d : Listed) → (slice_index_or old.groups.items place d).group ≡ record { first = first; last = last; commits = committing }
+  pub groups : new.groups.items
+      ≡ slice_set old.groups.items place (record { group = record { first = first; last = last; commits = committing }; is_entered = true })
+  pub phase : new.phase ≡ old.phase
+  pub reached : new.reached ≡ last
+
+-- the group with these statements was entered, or there is none behind the last that was
+abbrev pub EntersGroup : SessionGroups → SessionGroups → ℕ → ℕ → Option Bool → Type 0
+EntersGroup old new first last None = old.reached < first → IsPlaceOf old.groups.items first last None
+EntersGroup old new first last (Some committing) = EntersAt old new first last committing
+
+-- one more entry may stand, or not
+abbrev pub EntersOne : Script → List Entry → Entry → Order → Bool → Type 0
+EntersOne script entries e order true = MayStand script (entries ++ e ∷ []) × IsOrderBehind script (entries ++ e ∷ []) order
+EntersOne script entries e order false = MayStand script (entries ++ e ∷ []) → ⊥
 
 -- all entries may stand, or this is the first that may not
 abbrev pub EntersAll : Script → List Entry → Order → Option ℕ → Type 0

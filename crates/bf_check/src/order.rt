@@ -1,12 +1,14 @@
 //! Whether the entries of a report are transactions of the script, in an order that it allows, and end as it has them.
 
-ghost use Rattle.std.specs.Prelude.{◌≡◌, ℕ, ◌+◌, List, [], length, IfOk};
+ghost use Rattle.std.specs.Prelude.{◌≡◌, ◌+◌, List, [], length, IfOk};
 ghost use Rattle.std.specs.Ordering.{nat_cmp};
 ghost use Rattle.std.specs.List.Sorted.{IsBinarySearchResult, IsSearchInRange};
 ghost use Rattle.bf_tree.specs.declared.history.Entry.{Entry as EntryTold};
 ghost use Rattle.bf_tree.specs.declared.script.Script.{Script as ScriptTold};
-ghost use Rattle.bf_check.specs.Groups.{AreListed};
-ghost use Rattle.bf_check.specs.Judging.{EntersAll, EntersGroup, EntersOne, IsOrderBehind, IsPlaceOf, unlisted};
+ghost use Rattle.bf_check.specs.Groups.{AreListed, unlisted};
+ghost use Rattle.bf_check.specs.Judging.{EntersAll, EntersGroup, EntersOne, IsOrderBehind, IsPlaceOf, IsSomeOrder};
+ghost use Rattle.bf_sql.specs.Groups.{outcome_by};
+ghost use Rattle.bf_verdict.specs.Verdicts.{MayStand};
 
 use crate::groups::{Group, counted, groups_of};
 use bf_base::Memory;
@@ -128,6 +130,7 @@ impl Order {
 
     /// Enters a transaction, and answers whether it may stand behind those that were entered.
     fn enter(&mut self, entry: &Entry) -> Result<bool, Memory>
+        requires { IsSomeOrder self.old }
         ensures { IfOk result (λ stands. (script : ScriptTold) (entries : List EntryTold)
             → MayStand script entries → IsOrderBehind script entries self.old
             → EntersOne script entries entry.now self.new stands) }
@@ -158,8 +161,9 @@ impl Order {
 
     /// Enters transactions in turn. The number of the first that may not stand behind those before it, if there is one.
     pub fn enter_all(&mut self, entries: &[Entry]) -> Result<Option<u32>, Memory>
-        ensures { IfOk result (λ bad. (script : ScriptTold) → IsOrderBehind script [] self.old
-            → EntersAll script entries.now self.new bad) }
+        ghost script: { ScriptTold }
+        requires { IsOrderBehind script [] self.old }
+        ensures { IfOk result (EntersAll script entries.now self.new) }
     {
         for (index, entry) in entries.iter().enumerate() {
             if !self.enter(entry)? {

@@ -1,10 +1,9 @@
 -- How far the last migration has come, and the last line.
-use Rattle.std.proofs.Common.{◌≡◌, ℕ, Bool, true, ◌&&◌, IsTrue, List, [], ◌∷◌, ◌++◌, get_or, drop, codes, Option, None, Some, refl, sym, ap, ◌∙◌, append_assoc}
+use Rattle.std.proofs.Common.{◌≡◌, ℕ, ◌&&◌, IsTrue, List, [], ◌∷◌, ◌++◌, codes, Option, None, Some, refl, sym, ap, ◌∙◌, append_assoc}
 use Rattle.std.specs.Fmt.{decimal}
 use Rattle.std.specs.Option.{option_map}
-use Rattle.std.proofs.lemmas.Bool.{and_from, and_parts, ltb-true}
+use Rattle.std.proofs.lemmas.Bool.{and_from, and_parts}
 use Rattle.std.proofs.lemmas.List.{append_cancel_left}
-use Rattle.bf_base.specs.Names.{is_digit}
 use Rattle.bf_tree.specs.declared.history.Sweep.{Sweep}
 use Rattle.bf_tree.specs.declared.history.Sweep.TheVariants as sweep
 use Rattle.bf_text.specs.Replies.{newline, numbered}
@@ -12,7 +11,7 @@ use Rattle.bf_text.specs.Report.{end_text, sweep_text}
 use Rattle.bf_verdict.specs.Room.{is_u8, is_u32, sweep_has_room}
 use Rattle.bf_report.specs.Behind.{IsBehind}
 use Rattle.bf_report.specs.Lines.{Begins, EndsLine, EndsNumber, Finds, Reads, ended_sweep, number_line, running_fits, running_text, worded}
-use Rattle.bf_report.proofs.Finds.{found_as, said_found, unsaid_found}
+use Rattle.bf_report.proofs.Finds.{found_as, said_found}
 use Rattle.bf_report.proofs.InTurn.{differ, read_begins, read_only, unread}
 
 abbrev ReadsWorded : List ℕ → List ℕ → Option (ℕ × List ℕ) → Type 0

@@ -1,10 +1,10 @@
 -- Things that are found, and what they are found as.
-use Rattle.std.proofs.Common.{◌≡◌, ℕ, Bool, ◌&&◌, IsTrue, List, ◌++◌, Option, None, Some, refl, sym, ap, ◌∙◌, append_assoc}
+use Rattle.std.proofs.Common.{◌≡◌, ℕ, Bool, IsTrue, List, ◌++◌, Option, None, Some, sym, ap, ◌∙◌, append_assoc}
 use Rattle.std.specs.Option.{option_map}
 use Rattle.std.proofs.lemmas.List.{append_cancel_left}
 use Rattle.bf_report.specs.Behind.{IsBehind}
 use Rattle.bf_report.specs.Lines.{Begins, EndsLine, Finds, Passes, Reads}
-use Rattle.bf_report.proofs.InTurn.{pass_begins, pass_only, read_begins, unpassed, unread}
+use Rattle.bf_report.proofs.InTurn.{pass_begins, read_begins, unpassed, unread}
 
 module _ {X : Type 0} (text : X → List ℕ) (fits : X → Bool) (bytes : List ℕ) where
   abbrev line_of : (x : X) (rest : List ℕ) → IsTrue (fits x) → bytes ≡ text x ++ rest → Begins text fits EndsLine bytes x rest

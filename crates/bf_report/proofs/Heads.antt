@@ -1,8 +1,6 @@
 -- The first lines of replies, and the lines of rows.
-use Rattle.std.proofs.Common.{◌≡◌, ◌⊎◌, ℕ, Bool, true, false, ◌&&◌, IsTrue, List, [], ◌∷◌, ◌++◌, get_or, map, codes, Option, None, Some, inl, inr, refl, sym, ap, ◌∙◌, append_assoc}
-use Rattle.std.specs.List.{list_all}
+use Rattle.std.proofs.Common.{◌≡◌, ◌⊎◌, ℕ, Bool, true, ◌&&◌, IsTrue, List, [], ◌∷◌, ◌++◌, map, codes, Option, None, Some, inl, inr, refl, sym, ap, ◌∙◌, append_assoc}
 use Rattle.std.specs.Option.{option_map}
-use Rattle.std.proofs.lemmas.Bool.{and_parts}
 use Rattle.std.proofs.lemmas.List.{append_cancel_left}
 use Rattle.bf_tree.specs.declared.reply.Cause.{Cause}
 use Rattle.bf_tree.specs.declared.reply.Cause.TheVariants as cause
@@ -12,9 +10,8 @@ use Rattle.bf_tree.specs.declared.reply.Refusal.TheVariants as refusal
 use Rattle.bf_tree.specs.declared.reply.Reply.{Reply}
 use Rattle.bf_tree.specs.declared.reply.Reply.TheVariants as reply
 use Rattle.bf_text.specs.Replies.{cell_text, listed, newline, place_text, row_line}
-use Rattle.bf_verdict.specs.Room.{cell_has_room}
 use Rattle.bf_report.specs.Behind.{IsBehind}
-use Rattle.bf_report.specs.Lines.{Begins, EndsLine, Finds, FindsHead, Head, RowsOf, OneLine, Passes, cause_has_room, closed, ended_cause, head_body, head_fits, is_one_line, item_has_room, items_have_room, number_line, plain_fits, plain_text, row_has_room}
+use Rattle.bf_report.specs.Lines.{EndsLine, Finds, FindsHead, Head, RowsOf, OneLine, Passes, cause_has_room, closed, head_body, head_fits, is_one_line, item_has_room, items_have_room, number_line, plain_fits, plain_text, row_has_room}
 use Rattle.bf_report.proofs.Causes.{ReadsCause, ReadsNumber}
 use Rattle.bf_report.proofs.Finds.{found_as, found_pass, said_found}
 use Rattle.bf_report.proofs.InTurn.{differ, read_begins, unread}

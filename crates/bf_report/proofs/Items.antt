@@ -1,20 +1,18 @@
 -- Values and lists of them.
-use Rattle.std.proofs.Common.{◌≡◌, ◌⊎◌, ℕ, suc, ◌+◌, ◌^◌, ◌<◌, ◌≤◌, Bool, true, false, ◌&&◌, ◌==◌, IsTrue, List, [], ◌∷◌, ◌++◌, length, map, flat_map, drop, get_or, codes, Option, None, Some, ℤ, pos, negsuc, inl, inr, refl, sym, ap, subst, ◌∙◌, append_assoc, append-nil, length-append, arith}
-use Rattle.std.specs.List.{list_all}
-use Rattle.std.specs.Fmt.{decimal, signed_decimal}
-use Rattle.std.proofs.lemmas.Bool.{and_from, and_parts, both_ways, eqb-false, ltb-true}
+use Rattle.std.proofs.Common.{◌≡◌, ◌⊎◌, ℕ, ◌^◌, ◌<◌, Bool, true, false, ◌==◌, IsTrue, List, [], ◌∷◌, ◌++◌, length, map, flat_map, drop, get_or, codes, Option, None, Some, ℤ, pos, negsuc, inl, inr, refl, sym, ap, subst, ◌∙◌, append_assoc, append-nil, length-append, arith}
+use Rattle.std.specs.Fmt.{signed_decimal}
+use Rattle.std.proofs.lemmas.Bool.{and_from, and_parts, both_ways, ltb-true}
 use Rattle.std.proofs.lemmas.List.{append_cancel_left, map-append}
 use Rattle.std.proofs.lemmas.List.Concat.{flat_map-append}
 use Rattle.std.proofs.lemmas.List.Folds.{list_all-append}
 use Rattle.bf_base.specs.Names.{is_digit}
-use Rattle.bf_base.specs.declared.value.Value.{Value}
 use Rattle.bf_base.specs.declared.value.Value.TheVariants.{Int, Text}
 use Rattle.bf_tree.specs.declared.reply.Cell.{Cell}
 use Rattle.bf_tree.specs.declared.reply.Cell.TheVariants as cells
-use Rattle.bf_text.specs.Replies.{cell_text, newline}
+use Rattle.bf_text.specs.Replies.{cell_text}
 use Rattle.bf_verdict.specs.Room.{is_i64}
 use Rattle.bf_report.specs.Behind.{IsBehind}
-use Rattle.bf_report.specs.Lines.{Begins, EndsCell, EndsInt, EndsLine, EndsText, IsEnd, Passes, closed, closed_further, ends, is_quote, is_text_within, item_has_room, items_have_room, quoted_text, starts}
+use Rattle.bf_report.specs.Lines.{Begins, EndsCell, EndsInt, EndsLine, EndsText, IsEnd, Passes, closed, closed_further, ends, is_quote, is_text_within, item_has_room, items_have_room, quoted_text}
 use Rattle.bf_report.proofs.InTurn.{differ, pass_begins, pass_only, passes_none, passes_some, unpassed}
 use Rattle.bf_report.proofs.Integers.{PassesInt, first_digit}
 use Rattle.bf_report.proofs.Quotes.{PassesText}

@@ -1,8 +1,7 @@
 -- Numbers, names and keys up to the end of a line.
-use Rattle.std.proofs.Common.{◌≡◌, ℕ, ◌^◌, ◌<◌, ◌≤◌, Bool, true, false, not, ◌&&◌, IsTrue, List, [], ◌∷◌, ◌++◌, map, codes, Option, None, Some, refl, sym, ap, subst, ◌∙◌, append_assoc, arith}
-use Rattle.std.specs.List.{list_all}
+use Rattle.std.proofs.Common.{◌≡◌, ℕ, Bool, true, false, not, ◌&&◌, IsTrue, List, [], ◌∷◌, ◌++◌, map, codes, Option, None, Some, refl, sym, ap, ◌∙◌, append_assoc, arith}
 use Rattle.std.specs.Fmt.{decimal}
-use Rattle.std.proofs.lemmas.Bool.{and_from, and_parts, both_ways}
+use Rattle.std.proofs.lemmas.Bool.{and_from, and_parts}
 use Rattle.std.proofs.lemmas.Bool.Decides.{nat_tests}
 use Rattle.std.proofs.lemmas.List.{append_cancel_left}
 use Rattle.bf_base.specs.Names.{is_digit, is_name, is_name_byte}
@@ -11,9 +10,9 @@ use Rattle.bf_tree.specs.declared.reply.Cell.{Cell}
 use Rattle.bf_tree.specs.declared.reply.Cell.TheVariants as cells
 use Rattle.bf_text.specs.Numbers.{is_u64}
 use Rattle.bf_text.specs.Replies.{cell_text, listed, newline, value_text}
-use Rattle.bf_verdict.specs.Room.{is_u8, is_u32, table_has_room, value_has_room}
+use Rattle.bf_verdict.specs.Room.{is_u8, is_u32, value_has_room}
 use Rattle.bf_report.specs.Behind.{IsBehind}
-use Rattle.bf_report.specs.Lines.{Begins, EndsLine, EndsName, EndsNumber, Finds, Passes, Reads, closed, ends, is_at_most, items_have_room, item_has_room, key_fits, key_line, name_line, named_line, number_line, part_name, starts, table_fits, two_fit, two_numbers}
+use Rattle.bf_report.specs.Lines.{Begins, EndsLine, EndsName, EndsNumber, Finds, Passes, Reads, closed, ends, is_at_most, items_have_room, key_fits, key_line, name_line, named_line, number_line, part_name, table_fits, two_fit, two_numbers}
 use Rattle.bf_report.proofs.InTurn.{as_none, as_some, pass_begins, pass_only, read_begins, read_only, reads_none, reads_some, unpassed, unread}
 
 -- ---- numbers of so many bits

@@ -1,23 +1,18 @@
 -- The replies that are one line and tell no cause, by their forms.
-use Rattle.std.proofs.Common.{◌≡◌, ◌⊎◌, ℕ, suc, zero, ◌+◌, ◌<◌, ◌≤◌, Bool, true, false, ◌&&◌, IsTrue, List, [], ◌∷◌, ◌++◌, length, get_or, drop, codes, Option, None, Some, refl, sym, ap, subst, ◌∙◌, append_assoc, inl, inr, arith}
-use Rattle.std.specs.Prelude.{⊤}
-use Rattle.std.specs.List.{AllByRecursion, list_all}
-use Rattle.std.specs.Option.{option_map}
-use Rattle.std.proofs.lemmas.Bool.{and_from, and_parts, both_ways}
+use Rattle.std.proofs.Common.{◌≡◌, ◌⊎◌, ℕ, suc, zero, ◌+◌, ◌<◌, Bool, true, false, ◌&&◌, IsTrue, List, [], ◌∷◌, ◌++◌, length, get_or, drop, codes, Option, None, Some, refl, sym, ap, subst, ◌∙◌, append_assoc, inl, inr, arith}
+use Rattle.std.specs.List.{AllByRecursion}
 use Rattle.std.proofs.lemmas.List.{drop_more}
 use Rattle.std.specs.Fmt.{decimal}
 use Rattle.bf_base.specs.Names.{is_name}
 use Rattle.bf_base.specs.declared.value.Value.{Value}
-use Rattle.bf_tree.specs.declared.reply.Refusal.{Refusal}
 use Rattle.bf_tree.specs.declared.reply.Refusal.TheVariants as refusal
 use Rattle.bf_tree.specs.declared.reply.Reply.{Reply}
 use Rattle.bf_tree.specs.declared.reply.Reply.TheVariants as reply
 use Rattle.bf_text.specs.Numbers.{is_u64}
 use Rattle.bf_text.specs.Replies.{newline, values_text}
-use Rattle.bf_text.specs.Told.{is_named}
-use Rattle.bf_verdict.specs.Room.{is_u8, is_u32, reply_has_room}
+use Rattle.bf_verdict.specs.Room.{is_u8, is_u32}
 use Rattle.bf_report.specs.Behind.{IsBehind}
-use Rattle.bf_report.specs.Lines.{Finds, is_at_most, is_plain, key_fits, key_line, name_line, named_line, number_line, plain_fits, plain_text, table_fits}
+use Rattle.bf_report.specs.Lines.{Finds, is_at_most, key_fits, key_line, name_line, named_line, number_line, plain_fits, plain_text, table_fits}
 use Rattle.bf_report.specs.Forms.{Form, Told, form_text, forms, tail_fits, tail_text}
 use Rattle.bf_report.specs.declared.forms.Tail.{Tail}
 use Rattle.bf_report.specs.declared.forms.Tail.TheVariants as tail

@@ -1,14 +1,9 @@
 -- The steps of a reader: each line that is read leads on, and one that is not stops it.
-use Rattle.std.proofs.Common.{◌≡◌, ◌⊎◌, ℕ, suc, zero, ◌+◌, ◌-◌, ◌^◌, ◌<◌, ◌≤◌, Bool, true, false, not, ◌==◌, ◌&&◌, IsTrue, List, [], ◌∷◌, ◌++◌, length, map, flat_map, get_or, codes, Option, None, Some, inl, inr, refl, sym, ap, subst, ◌∙◌, append_assoc, append-nil, arith}
+use Rattle.std.proofs.Common.{◌≡◌, ℕ, suc, zero, ◌+◌, ◌^◌, ◌<◌, IsTrue, List, [], ◌∷◌, ◌++◌, length, flat_map, codes, None, Some, refl, sym, ap, subst, ◌∙◌, append_assoc, append-nil, arith}
 use Rattle.std.specs.List.{list_all}
-use Rattle.std.specs.Fmt.{decimal}
-use Rattle.std.specs.declared.cmp.Ordering.TheVariants.{Less}
-use Rattle.std.proofs.lemmas.Bool.{and_from, and_parts, both_ways, ltb-true}
+use Rattle.std.proofs.lemmas.Bool.{and_from, and_parts, ltb-true}
 use Rattle.std.proofs.lemmas.Option.{same_Some}
 use Rattle.std.proofs.lemmas.List.{append_cancel_left}
-use Rattle.bf_base.specs.Lists.{name_cmp, rises}
-use Rattle.bf_tree.specs.declared.history.Entry.{Entry}
-use Rattle.bf_tree.specs.declared.history.Sweep.{Sweep}
 use Rattle.bf_tree.specs.declared.history.Sweep.TheVariants as sweep
 use Rattle.bf_tree.specs.declared.reply.Cell.{Cell}
 use Rattle.bf_tree.specs.declared.reply.Reply.{Reply}
@@ -16,16 +11,14 @@ use Rattle.bf_tree.specs.declared.reply.Reply.TheVariants as reply
 use Rattle.bf_tree.specs.declared.script.Script.{Script}
 use Rattle.bf_text.specs.Numbers.{is_u64}
 use Rattle.bf_text.specs.Replies.{newline, place_text, reply_text, row_line}
-use Rattle.bf_text.specs.Report.{commit_of, commits_of, end_text, entry_text, table_line, texts_from}
-use Rattle.bf_text.specs.Told.{is_named}
+use Rattle.bf_text.specs.Report.{end_text}
 use Rattle.bf_verdict.specs.Reports.{IsNoReport}
-use Rattle.bf_verdict.specs.Room.{entry_has_room, reply_has_room, sweep_has_room}
-use Rattle.bf_report.specs.Going.{At, GoesEnd, GoesEntries, GoesNowhere, GoesReplies, GoesRows, GoesTables, SharesLine, Same, Line, Stands, follow, reply_fits}
-use Rattle.bf_report.specs.Lines.{Begins, EndsLine, Finds, FindsHead, Head, OneLine, Reads, RowsOf, head_body, head_fits, head_text, number_behind, number_line, plain_text, row_has_room, rows_behind, table_fits}
+use Rattle.bf_report.specs.Going.{At, GoesEnd, GoesEntries, GoesReplies, GoesRows, GoesTables, SharesLine, Stands, reply_fits}
+use Rattle.bf_report.specs.Lines.{Finds, FindsHead, Head, OneLine, RowsOf, head_body, head_fits, head_text, number_behind, number_line, row_has_room, rows_behind}
 use Rattle.bf_report.proofs.Heads.{no_rows, one_line_of}
 use Rattle.bf_report.proofs.Numerals.{number_read}
-use Rattle.bf_report.proofs.Unbroken.{end_is_line, entry_is_line, head_is_line, row_is_line, table_is_line}
-use Rattle.bf_report.proofs.Walks.{IsLine, further, lines_same, only_so, shared, shared_back, stopped_at}
+use Rattle.bf_report.proofs.Unbroken.{head_is_line, row_is_line}
+use Rattle.bf_report.proofs.Walks.{further, lines_same, only_so, shared_back, stopped_at}
 
 -- ---- a reply as its first line and its rows
 

@@ -1,5 +1,5 @@
 -- Lines that are words before another line.
-use Rattle.std.proofs.Common.{◌≡◌, ℕ, Bool, List, [], ◌∷◌, ◌++◌, codes, Option, None, Some, refl, sym, ap, ◌∙◌, append_assoc}
+use Rattle.std.proofs.Common.{◌≡◌, ℕ, Bool, List, ◌++◌, codes, Option, None, Some, refl, ◌∙◌, append_assoc}
 use Rattle.std.specs.Fmt.{decimal}
 use Rattle.bf_tree.specs.declared.reply.Cause.{Cause}
 use Rattle.bf_text.specs.Replies.{cause_text, newline, place_text}

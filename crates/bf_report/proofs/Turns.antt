@@ -1,10 +1,10 @@
 -- The turns of the loops that read a report.
-use Rattle.std.proofs.Common.{◌≡◌, ℕ, suc, ◌+◌, ◌-◌, ◌<◌, ◌≤◌, Bool, true, ◌&&◌, IsTrue, List, [], ◌∷◌, ◌++◌, length, map, flat_map, take, drop, get_or, Option, None, Some, Result, Ok, Err, refl, sym, ap, subst, ◌∙◌, append_assoc, append-nil, length-append, arith}
+use Rattle.std.proofs.Common.{◌≡◌, ℕ, suc, ◌+◌, ◌-◌, ◌<◌, ◌≤◌, Bool, true, IsTrue, List, [], ◌∷◌, ◌++◌, length, map, flat_map, take, drop, get_or, None, Some, Result, Ok, Err, refl, sym, ap, subst, ◌∙◌, append_assoc, append-nil, length-append, arith}
 use Rattle.std.specs.Prelude.{IfOk, IsErrAnd}
 use Rattle.std.specs.Global.{Vec}
 use Rattle.std.specs.List.{list_all}
 use Rattle.std.specs.Ordering.{is_lt}
-use Rattle.std.proofs.lemmas.Bool.{and_from, and_parts}
+use Rattle.std.proofs.lemmas.Bool.{and_from}
 use Rattle.std.proofs.lemmas.List.{drop_all, drop_more, map-append, take_all, take_more}
 use Rattle.std.proofs.lemmas.List.Concat.{flat_map-append}
 use Rattle.std.proofs.lemmas.List.Folds.{list_all-append}
@@ -25,7 +25,7 @@ use Rattle.bf_report.specs.declared.error.ReportError.{ReportError}
 use Rattle.bf_report.specs.declared.error.ReportError.TheVariants as report
 use Rattle.bf_report.proofs.InTurn.{read_begins}
 use Rattle.bf_report.proofs.Onward.{NoTable, entries_done, entry_step, followed, follows, table_step, tables_done}
-use Rattle.bf_report.proofs.Steps.{head_step, head_stop, join_reply, row_step, row_stop, rows_done}
+use Rattle.bf_report.proofs.Steps.{join_reply, row_step, row_stop, rows_done}
 
 -- one more behind
 texts_push : {X : Type 0} (f : ℕ → X → List ℕ) (n : ℕ) (xs : List X) (x : X) → texts_from f n (xs ++ x ∷ []) ≡ texts_from f n xs ++ f (length xs + n) x

@@ -1,5 +1,5 @@
 -- The lines of a report have no line feed but their last byte.
-use Rattle.std.proofs.Common.{◌≡◌, ◌⊎◌, ℕ, suc, zero, ◌+◌, ◌/◌, ◌%◌, Bool, true, false, cond, not, ◌==◌, ◌&&◌, if◌then◌else◌, IsTrue, List, [], ◌∷◌, ◌++◌, length, map, flat_map, codes, ℤ, pos, negsuc, inl, inr, refl, sym, ap, subst, ◌∙◌, append_assoc, append-nil, arith}
+use Rattle.std.proofs.Common.{◌≡◌, ℕ, suc, zero, ◌+◌, ◌/◌, ◌%◌, Bool, true, false, cond, ◌==◌, if◌then◌else◌, IsTrue, List, [], ◌∷◌, ◌++◌, length, map, flat_map, codes, ℤ, pos, negsuc, inl, inr, refl, sym, ap, subst, ◌∙◌, append_assoc, arith}
 use Rattle.std.specs.Prelude.{nat_le, nat_lt}
 use Rattle.std.specs.List.{list_all}
 use Rattle.std.specs.Fmt.{decimal, digit_glyph, digits, digits_onto, signed_decimal}
@@ -7,7 +7,7 @@ use Rattle.std.proofs.lemmas.Bool.{and_from, and_parts}
 use Rattle.std.proofs.lemmas.Bool.Decides.{nat_tests}
 use Rattle.std.proofs.lemmas.List.Folds.{list_all-append}
 use Rattle.bf_base.specs.Limits.{longest_text}
-use Rattle.bf_base.specs.Names.{is_digit, is_lower, is_name, is_name_byte}
+use Rattle.bf_base.specs.Names.{is_name, is_name_byte}
 use Rattle.bf_base.specs.Texts.{is_text_byte}
 use Rattle.bf_base.specs.declared.value.Value.{Value}
 use Rattle.bf_base.specs.declared.value.Value.TheVariants.{Int, Text}
@@ -21,13 +21,12 @@ use Rattle.bf_tree.specs.declared.reply.Cause.TheVariants as cause
 use Rattle.bf_tree.specs.declared.reply.Cell.{Cell}
 use Rattle.bf_tree.specs.declared.reply.Cell.TheVariants as cells
 use Rattle.bf_tree.specs.declared.reply.Reply.{Reply}
-use Rattle.bf_tree.specs.declared.reply.Reply.TheVariants as reply
 use Rattle.bf_text.specs.Replies.{cell_text, listed, newline, numbered, place_text, quoted, row_line, value_text, values_text}
 use Rattle.bf_text.specs.Report.{end_text, entry_text, outcome_text, sweep_text, table_line}
-use Rattle.bf_verdict.specs.Room.{cell_has_room, is_text, is_u8, is_u32, sweep_has_room, value_has_room}
+use Rattle.bf_verdict.specs.Room.{cell_has_room, is_u32, value_has_room}
 use Rattle.bf_report.specs.Forms.{Form, Told, form_text, forms, tail_fits, tail_text}
 use Rattle.bf_report.specs.Going.{is_unbroken}
-use Rattle.bf_report.specs.Lines.{Head, OneLine, RowsOf, ended_cause, ended_outcome, ended_sweep, head_body, head_fits, head_text, key_fits, key_line, name_line, named_line, number_line, plain_fits, plain_text, row_has_room, table_fits, two_numbers}
+use Rattle.bf_report.specs.Lines.{Head, OneLine, RowsOf, ended_cause, head_body, head_fits, head_text, named_line, number_line, plain_fits, plain_text, row_has_room, table_fits, two_numbers}
 use Rattle.bf_report.specs.declared.forms.Tail.{Tail}
 use Rattle.bf_report.specs.declared.forms.Tail.TheVariants as tail
 use Rattle.bf_report.proofs.Heads.{plain_or_cause}

@@ -1,12 +1,12 @@
 -- Where a text stands that is read line by line: how it goes on, and where it stops to be a report.
-use Rattle.std.proofs.Common.{◌≡◌, ℕ, suc, ◌+◌, ◌-◌, ◌<◌, ◌≤◌, Bool, true, false, not, ◌==◌, ◌&&◌, IsTrue, List, [], ◌∷◌, ◌++◌, length, take, drop, refl, sym, ap, subst, ◌∙◌, append_assoc, append-nil, length-append, arith}
+use Rattle.std.proofs.Common.{◌≡◌, ℕ, ◌+◌, ◌-◌, ◌<◌, ◌≤◌, Bool, true, false, not, ◌==◌, IsTrue, List, [], ◌∷◌, ◌++◌, length, take, drop, refl, sym, ap, subst, ◌∙◌, append_assoc, length-append, arith}
 use Rattle.std.specs.List.{list_all}
 use Rattle.std.proofs.lemmas.Bool.{and_from, and_parts, both_ways, eqb-true}
 use Rattle.std.proofs.Math.Seq.{take-append-add}
-use Rattle.std.proofs.lemmas.List.{append_cancel_left, length-take-le, take-append-drop, take_at}
+use Rattle.std.proofs.lemmas.List.{length-take-le, take-append-drop, take_at}
 use Rattle.std.proofs.lemmas.List.Folds.{list_all-append}
 use Rattle.bf_tree.specs.declared.script.Script.{Script}
-use Rattle.bf_verdict.specs.Reports.{BeginsReport, IsNoReport, IsReport, Parts, are_lines}
+use Rattle.bf_verdict.specs.Reports.{BeginsReport, IsNoReport, IsReport, are_lines}
 use Rattle.bf_report.specs.Going.{IsSomeReport, Line, Same, SharesLine, Stands, is_unbroken}
 
 -- ---- lines

@@ -1,8 +1,7 @@
 -- Reports, and what goes on from their first byte.
-use Rattle.std.proofs.Common.{◌≡◌, ℕ, suc, zero, ◌+◌, ◌-◌, ◌<◌, ◌≤◌, Bool, true, false, ◌&&◌, IsTrue, List, [], ◌∷◌, ◌++◌, length, map, flat_map, drop, Some, Result, Ok, Err, refl, sym, ap, subst, ◌∙◌, append_assoc, append-nil, length-append, arith}
-use Rattle.std.specs.Prelude.{⊤}
+use Rattle.std.proofs.Common.{◌≡◌, ℕ, suc, zero, ◌+◌, ◌-◌, Bool, ◌&&◌, IsTrue, List, [], ◌∷◌, ◌++◌, length, map, flat_map, drop, Result, Err, refl, sym, ap, subst, ◌∙◌, append_assoc, length-append, arith}
 use Rattle.std.specs.Global.{Vec}
-use Rattle.std.specs.List.{list_all, range_with_len}
+use Rattle.std.specs.List.{list_all}
 use Rattle.std.specs.Ordering.{is_lt}
 use Rattle.std.proofs.lemmas.Bool.{and_from, and_parts}
 use Rattle.std.proofs.Math.Seq.{drop-append_seam}
@@ -10,16 +9,15 @@ use Rattle.bf_base.specs.Lists.{name_cmp, rises}
 use Rattle.bf_base.specs.Names.{is_name}
 use Rattle.bf_tree.specs.Answered.{IsAllAnswered}
 use Rattle.bf_tree.specs.declared.history.Entry.{Entry}
-use Rattle.bf_tree.specs.declared.history.Sweep.{Sweep}
 use Rattle.bf_tree.specs.declared.reply.Reply.{Reply}
 use Rattle.bf_tree.specs.declared.script.Script.{Script}
 use Rattle.bf_tree.specs.declared.script.Session.{Session}
 use Rattle.bf_text.specs.Replies.{reply_text}
 use Rattle.bf_text.specs.Report.{commits_of, end_text, entry_text, session_text, table_line, texts_from}
-use Rattle.bf_text.specs.Told.{IsTold, is_named}
-use Rattle.bf_verdict.specs.Reports.{AreOf, IsReport, Parts, text_of}
+use Rattle.bf_text.specs.Told.{is_named}
+use Rattle.bf_verdict.specs.Reports.{IsReport, Parts, text_of}
 use Rattle.bf_verdict.specs.Room.{entry_has_room, reply_has_room, sweep_has_room, table_has_room}
-use Rattle.bf_report.specs.Going.{At, GoesEnd, GoesEntries, GoesReplies, GoesTables, IfRead, IsSomeReport, SharesLine, Stands, all_places, follow, places_from, reply_fits, starts_of}
+use Rattle.bf_report.specs.Going.{At, GoesEnd, GoesEntries, GoesReplies, GoesTables, IfRead, IsSomeReport, Stands, all_places, follow, places_from, reply_fits, starts_of}
 use Rattle.bf_report.specs.Lines.{table_fits}
 use Rattle.bf_report.specs.declared.error.ReportError.{ReportError}
 use Rattle.bf_report.specs.declared.error.ReportError.TheVariants as report

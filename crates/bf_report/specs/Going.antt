@@ -11,7 +11,7 @@ use Rattle.bf_tree.specs.declared.script.Session.{Session}
 use Rattle.bf_text.specs.Replies.{reply_text, row_line}
 use Rattle.bf_text.specs.Report.{commits_of, end_text, entry_text, table_line, texts_from}
 use Rattle.bf_text.specs.Told.{is_named}
-use Rattle.bf_verdict.specs.Reports.{IsNoReport, IsReport, Parts, are_lines}
+use Rattle.bf_verdict.specs.Reports.{IsReport, Parts, are_lines}
 use Rattle.bf_verdict.specs.Room.{entry_has_room, reply_has_room, sweep_has_room}
 use Rattle.bf_report.specs.Lines.{row_has_room, table_fits}
 use Rattle.bf_report.specs.declared.error.ReportError.{ReportError}

@@ -1,4 +1,3 @@
-use Rattle.std.proofs.Common.{Some}
 use Rattle.bf_report.specs.Lines.{is_at_most, number_line}
 use Rattle.bf_report.proofs.Finds.{found_read}
 use Rattle.bf_report.proofs.forms.behind_number.Goals as goal

@@ -1,7 +1,7 @@
 use Rattle.std.specs.Fmt.{decimal}
 use Rattle.bf_verdict.specs.Room.{is_u32}
 use Rattle.bf_report.specs.Lines.{EndsNumber}
-use Rattle.bf_report.proofs.InTurn.{said_read, unsaid}
+use Rattle.bf_report.proofs.InTurn.{said_read}
 use Rattle.bf_report.proofs.forms.worded.Goals as goal
 
 pub returns : goal.returns

@@ -1,4 +1,3 @@
-use Rattle.std.proofs.Common.{codes, refl, append_assoc, ◌++◌, ap, sym, ◌∙◌}
 use Rattle.bf_report.proofs.Tables.{no_audit, table_read}
 use Rattle.bf_report.proofs.lines.table_line.Goals as goal
 

@@ -1,4 +1,4 @@
-use Rattle.std.proofs.Common.{◌≡◌, true, false, sym, ◌∙◌}
+use Rattle.std.proofs.Common.{◌≡◌, true, false, ◌∙◌}
 use Rattle.bf_base.specs.Names.{is_name, is_name_byte}
 use Rattle.bf_report.proofs.Names.{front_is, name_all, name_none, name_some}
 use Rattle.bf_report.proofs.pieces.name.Goals as goal

@@ -1,4 +1,4 @@
-use Rattle.std.proofs.Common.{◌≡◌, true, false, sym, ◌∙◌, arith}
+use Rattle.std.proofs.Common.{◌≡◌, true, false, sym, arith}
 use Rattle.std.proofs.lemmas.Bool.{le-leb}
 use Rattle.bf_base.specs.Names.{is_digit}
 use Rattle.bf_report.specs.Lines.{starts}

@@ -1,4 +1,4 @@
-use Rattle.std.proofs.Common.{◌≡◌, ℕ, List, refl, sym, ap, subst, ◌∙◌}
+use Rattle.std.proofs.Common.{◌≡◌, ℕ, refl, sym, ap, subst, ◌∙◌}
 use Rattle.bf_text.specs.Report.{commits_of}
 use Rattle.bf_verdict.specs.Reports.{IsNoReport}
 use Rattle.bf_report.specs.Going.{GoesEnd, GoesEntries, Stands}

@@ -1,4 +1,4 @@
-use Rattle.bf_report.proofs.Turns.{rows_end, rows_next, rows_stop, rows_told}
+use Rattle.bf_report.proofs.Turns.{rows_end, rows_next, rows_stop}
 use Rattle.bf_report.proofs.reading.rows.Goals as goal
 
 pub returns-in_default-clause-goes : goal.returns-in_default-clause-goes

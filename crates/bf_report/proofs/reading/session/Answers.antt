@@ -1,4 +1,4 @@
-use Rattle.std.proofs.Common.{ℕ, ◌+◌, ◌-◌, ◌++◌}
+use Rattle.std.proofs.Common.{◌+◌, ◌-◌, ◌++◌}
 use Rattle.bf_verdict.specs.Reports.{IsNoReport}
 use Rattle.bf_report.specs.Going.{GoesReplies, Stands, places_from}
 use Rattle.bf_report.proofs.Turns.{passed_on, session_at, session_begin, session_next}

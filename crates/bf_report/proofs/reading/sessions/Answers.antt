@@ -1,4 +1,4 @@
-use Rattle.std.proofs.Common.{◌≡◌, ℕ, ◌+◌, ◌++◌, List, drop, length, subst, sym, ◌∙◌}
+use Rattle.std.proofs.Common.{ℕ, ◌+◌, ◌++◌, drop, subst, sym, ◌∙◌}
 use Rattle.bf_verdict.specs.Reports.{IsNoReport}
 use Rattle.bf_report.specs.Going.{GoesEntries, GoesReplies, Stands, all_places, places_from}
 use Rattle.bf_report.proofs.Turns.{passed_on, sessions_at, sessions_goes, sessions_next}

@@ -1,4 +1,4 @@
-use Rattle.std.proofs.Common.{◌++◌, ℕ, List, codes, flat_map, map, subst}
+use Rattle.std.proofs.Common.{◌++◌, codes, flat_map, map, subst}
 use Rattle.std.specs.Option.{option_copied}
 use Rattle.std.proofs.lemmas.List.{take_rest}
 use Rattle.bf_report.specs.Behind.{IsBehind}

@@ -1,4 +1,4 @@
-use Rattle.std.proofs.Common.{◌++◌, codes, subst}
+use Rattle.std.proofs.Common.{◌++◌, codes}
 use Rattle.bf_text.specs.Numbers.{numbers_in_value}
 use Rattle.bf_text.specs.Replies.{values_text}
 use Rattle.bf_report.proofs.Behind.{all_short, always, behind_both, not_behind}

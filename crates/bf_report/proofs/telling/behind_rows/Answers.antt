@@ -1,9 +1,7 @@
-use Rattle.std.proofs.Common.{◌≡◌, ◌++◌, ◌<◌, ◌^◌, ℕ, List, codes, length, flat_map, arith, subst, append_assoc}
-use Rattle.std.specs.Option.{option_copied}
+use Rattle.std.proofs.Common.{◌++◌, ◌<◌, ◌^◌, codes, length, flat_map, arith}
 use Rattle.std.proofs.lemmas.Bool.{and_from, lt-ltb}
 use Rattle.bf_text.specs.Numbers.{are_u64, is_u64, numbers_in_cell}
 use Rattle.bf_text.specs.Replies.{newline, numbered, row_line}
-use Rattle.bf_report.specs.Behind.{IsBehind}
 use Rattle.bf_report.proofs.Behind.{behind_both, holds_too, rows_short}
 use Rattle.bf_report.proofs.telling.behind_rows.Goals as goal
 
