@@ -1,7 +1,7 @@
 use Rattle.std.proofs.Common.{ap}
 use Rattle.bf_sql.specs.Groups.{ends_block}
-use Rattle.bf_check.proofs.Grouping.{alone_next, begin_next, end_next, ended_by, inner_next, neither, not_ended, stray_next}
-use Rattle.bf_check.proofs.groups.enter.Goals as goal
+use Rattle.bf_order.proofs.Grouping.{alone_next, begin_next, end_next, ended_by, inner_next, neither, not_ended, stray_next}
+use Rattle.bf_order.proofs.groups.enter.Goals as goal
 
 pub returns-in_default-block_end : goal.returns-in_default-block_end
 returns-in_default-block_end c = λ ss index number below at so.

@@ -1,7 +1,7 @@
 use Rattle.std.proofs.Common.{◌≡◌, ◌++◌, ◌∷◌, [], length, ap, ◌∙◌, false, arith}
-use Rattle.bf_check.specs.declared.groups.Group.{Group}
-use Rattle.bf_check.proofs.Grouping.{groups_begin, groups_closed, groups_open, some_statement}
-use Rattle.bf_check.proofs.groups.groups_of.Goals as goal
+use Rattle.bf_order.specs.declared.groups.Group.{Group}
+use Rattle.bf_order.proofs.Grouping.{groups_begin, groups_closed, groups_open, some_statement}
+use Rattle.bf_order.proofs.groups.groups_of.Goals as goal
 
 pub loop-index-init : goal.loop-index-init
 loop-index-init c = rw c.new-groups.ensures.items (groups_begin c.args.statements.now)

@@ -10,8 +10,8 @@ use Rattle.bf_base.specs.Lists.{part}
 use Rattle.bf_tree.specs.declared.statement.Statement.{Statement}
 use Rattle.bf_tree.specs.declared.statement.Statement.TheVariants.{Begin, Commit, Rollback}
 use Rattle.bf_sql.specs.Groups.{commits, ends_block, groups_from, groups_of, last_is_commit}
-use Rattle.bf_check.specs.Groups.{Closed, GroupsSo, IsOpen, Open, block_end_of, goes_on, group_at, groups_found}
-use Rattle.bf_check.specs.declared.groups.Group.{Group}
+use Rattle.bf_order.specs.Groups.{Closed, GroupsSo, IsOpen, Open, block_end_of, goes_on, group_at, groups_found}
+use Rattle.bf_order.specs.declared.groups.Group.{Group}
 
 -- ---- the last statement of a block
 

@@ -3,7 +3,7 @@
 ghost use Rattle.std.specs.Prelude.{◌≡◌, ℕ, ◌+◌, ◌<◌, ◌≤◌, ◌^◌, List, IfOk, OnErr, length, slice_index_or};
 ghost use Rattle.bf_base.specs.Lists.{part};
 ghost use Rattle.bf_tree.specs.declared.statement.Statement.{Statement as Told};
-ghost use Rattle.bf_check.specs.Groups.{GroupsSo, block_end_of, groups_found};
+ghost use Rattle.bf_order.specs.Groups.{GroupsSo, block_end_of, groups_found};
 
 use bf_base::Memory;
 use bf_tree::Statement;
@@ -11,7 +11,7 @@ use std::alloc::Global;
 
 /// A transaction of a session: its first and its last statement, counted from 1, and whether it commits.
 #[derive(Clone, Copy, Debug)]
-pub(crate) struct Group {
+pub struct Group {
     pub first: u32,
     pub last: u32,
     pub commits: bool,
@@ -33,7 +33,7 @@ impl Group {
 ///
 /// # Errors
 /// Where it has more than 32 bits: no script has room for so many statements.
-pub(crate) fn counted(index: usize) -> Result<u32, Memory>
+pub fn counted(index: usize) -> Result<u32, Memory>
     ensures ok { IfOk result (λ number. number ≡ index + 1) }
     ensures err { OnErr result (2 ^ 32 ≤ index + 1) }
 {
@@ -85,7 +85,7 @@ fn enter(
 
 /// The transactions of a session, in order: its blocks, from BEGIN to COMMIT, to ROLLBACK or to the end, and each
 /// statement outside a block but a COMMIT or a ROLLBACK. It takes time linear in the session.
-pub(crate) fn groups_of(alloc: Global, statements: &[Statement]) -> Result<Vec<Group>, Memory>
+pub fn groups_of(alloc: Global, statements: &[Statement]) -> Result<Vec<Group>, Memory>
     ensures { IfOk result (λ groups. groups.items ≡ groups_found statements.now) }
 {
     let mut groups = Vec::new(alloc);

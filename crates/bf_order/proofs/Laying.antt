@@ -1,5 +1,5 @@
 -- The groups of a session lie behind one another, and each statement between them is a COMMIT or a ROLLBACK.
-use Rattle.std.proofs.Common.{◌≡◌, ℕ, ◌+◌, ◌-◌, ◌<◌, ◌≤◌, Bool, true, false, List, [], ◌∷◌, ◌++◌, length, map, drop, get_or, Option, None, Some, Less, refl, sym, ap, ap₂, subst, ◌∙◌, inl, inr, ◌⊎◌, arith, length-drop}
+use Rattle.std.proofs.Common.{◌≡◌, ℕ, zero, suc, ◌+◌, ◌-◌, ◌<◌, ◌≤◌, Bool, true, false, List, [], ◌∷◌, ◌++◌, length, map, drop, get_or, Option, None, Some, Less, refl, sym, ap, ap₂, subst, ◌∙◌, inl, inr, ◌⊎◌, arith, length-drop}
 use Rattle.std.specs.Prelude.{nat_lt}
 use Rattle.std.specs.List.{list_any}
 use Rattle.std.specs.Ordering.{is_lt, nat_cmp}
@@ -9,7 +9,7 @@ use Rattle.bf_base.specs.Lists.{part, rises}
 use Rattle.bf_tree.specs.declared.statement.Statement.{Statement}
 use Rattle.bf_tree.specs.declared.statement.Statement.TheVariants.{Begin, Commit, Rollback}
 use Rattle.bf_sql.specs.Groups.{ends_block, groups_from, groups_of}
-use Rattle.bf_check.proofs.Grouping.{part_alone}
+use Rattle.bf_order.proofs.Grouping.{part_alone}
 
 same_or_more : (n k : ℕ) → n ≤ k → (n ≡ k) ⊎ (n + 1 ≤ k)
 same_or_more n k h = grind arith
@@ -68,30 +68,30 @@ module _ (ss : List Statement) where
   laid_both [] index within e =
       let size : length ss - index ≡ 0 = sym (length-drop index ss) ∙ ap length e in
       ((λ k low high. absurd (omega arith)),
-      (λ b some open. (omega arith, omega arith, omega arith, (λ k low high. absurd (omega arith)), (λ k low high. absurd (omega arith)))))
+      (λ b some began. (omega arith, omega arith, omega arith, (λ k low high. absurd (omega arith)), (λ k low high. absurd (omega arith)))))
   laid_both (Begin ∷ rest) index within e =
       let n = next index Begin rest e in
       let below = n.below in
       let more = laid_both rest (index + 1) (omega arith) n.behind in
-      (more.1 (index + 1) (omega arith) (omega arith), (λ b some open. more.1 b some (omega arith)))
+      (more.1 (index + 1) (omega arith) (omega arith), (λ b some began. more.1 b some (omega arith)))
   laid_both (Commit ∷ rest) index within e =
       let n = next index Commit rest e in
       let below = n.below in
       let more = laid_both rest (index + 1) (omega arith) n.behind in
       (one_earlier (index + 1) (groups_from (index + 1 + 1) None rest) (is_end_by index Commit rest n refl) more.0,
-      (λ b some open. ended index b (groups_from (index + 1 + 1) None rest) below (omega arith) more.0))
+      (λ b some began. ended index b (groups_from (index + 1 + 1) None rest) below (omega arith) more.0))
   laid_both (Rollback ∷ rest) index within e =
       let n = next index Rollback rest e in
       let below = n.below in
       let more = laid_both rest (index + 1) (omega arith) n.behind in
       (one_earlier (index + 1) (groups_from (index + 1 + 1) None rest) (is_end_by index Rollback rest n refl) more.0,
-      (λ b some open. ended index b (groups_from (index + 1 + 1) None rest) below (omega arith) more.0))
+      (λ b some began. ended index b (groups_from (index + 1 + 1) None rest) below (omega arith) more.0))
   laid_both (s ∷ rest) index within e =
       let n = next index s rest e in
       let below = n.below in
       let more = laid_both rest (index + 1) (omega arith) n.behind in
       (ended index (index + 1) (groups_from (index + 1 + 1) None rest) below (omega arith) more.0,
-      (λ b some open. more.1 b some (omega arith)))
+      (λ b some began. more.1 b some (omega arith)))
 
   pub groups_laid : Laid 1 (groups_of ss)
   groups_laid = (laid_both ss 0 (omega arith) refl).0
@@ -109,8 +109,17 @@ module _ (ss : List Statement) where
       let low = laid.4.0 in
       and_from (is_lt (nat_cmp g.0 h.0)) (rises nat_cmp (h.0 ∷ map (λ g. g.0) gs)) (ap is_lt (less g.0 h.0 (omega arith))) (laid_rises (g.1 + 1) (h ∷ gs) laid.4)
 
-  -- each begins at the statement from which they are laid, or behind it
-  pub laid_low : (n : ℕ) (gs : List (ℕ × ℕ)) (k : ℕ) (d : ℕ × ℕ) → Laid n gs → k < length gs → n ≤ (get_or gs k d).0
-  laid_low n [] k d laid within = absurd (omega arith)
-  laid_low n (g ∷ gs) 0 d laid within = laid.0
-  laid_low n (g ∷ gs) k d laid within = ?
+  -- each begins at the statement from which they are laid, or behind it, and none ends before it begins
+  pub laid_at : (n : ℕ) (gs : List (ℕ × ℕ)) (k : ℕ) (d : ℕ × ℕ) → Laid n gs → k < length gs → n ≤ (get_or gs k d).0
+  laid_at n [] k d laid within = absurd (omega arith)
+  laid_at n (g ∷ gs) zero d laid within = laid.0
+  laid_at n (g ∷ gs) (suc k) d laid within =
+      let low = laid.0 in
+      let order = laid.1 in
+      let more = laid_at (g.1 + 1) gs k d laid.4 (omega arith) in
+      omega arith
+
+  pub laid_order : (n : ℕ) (gs : List (ℕ × ℕ)) (k : ℕ) (d : ℕ × ℕ) → Laid n gs → k < length gs → (get_or gs k d).0 ≤ (get_or gs k d).1
+  laid_order n [] k d laid within = absurd (omega arith)
+  laid_order n (g ∷ gs) zero d laid within = laid.1
+  laid_order n (g ∷ gs) (suc k) d laid within = laid_order (g.1 + 1) gs k d laid.4 (omega arith)

@@ -6,8 +6,8 @@ use Rattle.bf_tree.specs.declared.statement.Statement.{Statement}
 use Rattle.bf_tree.specs.declared.statement.Statement.TheVariants.{Begin, Commit, Rollback}
 use Rattle.bf_base.specs.Lists.{part, rises}
 use Rattle.bf_sql.specs.Groups.{commits, ends_block, groups_from, groups_of}
-use Rattle.bf_check.specs.declared.groups.Group.{Group}
-use Rattle.bf_check.specs.declared.order.Listed.{Listed}
+use Rattle.bf_order.specs.declared.groups.Group.{Group}
+use Rattle.bf_order.specs.declared.order.Listed.{Listed}
 
 -- a group, and whether it commits
 abbrev pub group_at : List Statement → ℕ × ℕ → Group

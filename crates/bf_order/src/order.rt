@@ -1,12 +1,12 @@
 //! Whether the entries of a report are transactions of the script, in an order that it allows, and end as it has them.
 
-ghost use Rattle.std.specs.Prelude.{◌≡◌, ◌+◌, List, [], length, IfOk};
+ghost use Rattle.std.specs.Prelude.{◌≡◌, ◌≢◌, ◌+◌, List, [], false, length, true, IfOk};
 ghost use Rattle.std.specs.Ordering.{nat_cmp};
 ghost use Rattle.std.specs.List.Sorted.{IsBinarySearchResult, IsSearchInRange};
 ghost use Rattle.bf_tree.specs.declared.history.Entry.{Entry as EntryTold};
 ghost use Rattle.bf_tree.specs.declared.script.Script.{Script as ScriptTold};
-ghost use Rattle.bf_check.specs.Groups.{AreListed, unlisted};
-ghost use Rattle.bf_check.specs.Judging.{EntersAll, EntersGroup, EntersOne, IsOrderBehind, IsPlaceOf, IsSomeOrder};
+ghost use Rattle.bf_order.specs.Groups.{AreListed, unlisted};
+ghost use Rattle.bf_order.specs.Entries.{EntersAll, EntersGroup, EntersOne, IsOrderBehind, IsPlaceOf, IsSomeOrder};
 ghost use Rattle.bf_sql.specs.Groups.{outcome_by};
 ghost use Rattle.bf_verdict.specs.Verdicts.{MayStand};
 
@@ -17,7 +17,7 @@ use std::alloc::Global;
 
 /// A transaction of a session, and whether an entry is of it.
 #[derive(Clone, Copy, Debug)]
-pub(crate) struct Listed {
+pub struct Listed {
     pub group: Group,
     pub is_entered: bool,
 }
@@ -43,7 +43,7 @@ fn place_of(groups: &[Listed], first: u32, last: u32) -> Option<usize>
 
 /// The transactions of a session, and the last statement that an entry reaches.
 #[derive(Debug, Drop)]
-pub(crate) struct SessionGroups {
+pub struct SessionGroups {
     phase: u32,
     pub groups: Vec<Listed>,
     reached: u32,
@@ -57,9 +57,9 @@ impl SessionGroups {
     {
         let found = groups_of(alloc, session.statements.as_slice())?;
         let mut groups = Vec::with_capacity(alloc, found.len())?;
-        for group in found {
+        for group in found.as_slice() {
             groups.push(Listed {
-                group,
+                group: *group,
                 is_entered: false,
             })?;
         }
@@ -92,7 +92,7 @@ impl SessionGroups {
 
 /// The transactions of a script, the latest phase of an entry, and how many entries commit.
 #[derive(Debug, Drop)]
-pub(crate) struct Order {
+pub struct Order {
     pub sessions: Vec<SessionGroups>,
     phase: u32,
     commits: u64,
@@ -114,49 +114,49 @@ impl Order {
         })
     }
 
-    /// The outcome of a transaction that is next to end, by whether it commits.
-    ///
-    /// # Errors
-    /// Where 2 ^ 64 would have committed.
-    fn outcome(&self, commits: bool) -> Result<Outcome, Memory>
-        ensures { IfOk result (λ outcome. outcome ≡ (outcome_by commits (self.now.commits + 1)).0) }
+    /// Whether a transaction that is next to end, and commits or not, ends so.
+    fn ends_so(&self, commits: bool, outcome: Outcome) -> bool
+        ensures yes { result ≡ true
+            → outcome ≡ (outcome_by commits (self.now.commits + 1)).0 }
+        ensures no { result ≡ false
+            → outcome ≢ (outcome_by commits (self.now.commits + 1)).0 }
     {
-        if !commits {
-            return Ok(Outcome::RolledBack);
+        match outcome {
+            Outcome::Committed(number) => {
+                commits && number > self.commits && number - self.commits == 1
+            }
+            Outcome::RolledBack => !commits,
         }
-        let number = self.commits.checked_add(1).ok_or(Memory)?;
-        Ok(Outcome::Committed(number))
     }
 
     /// Enters a transaction, and answers whether it may stand behind those that were entered.
-    fn enter(&mut self, entry: &Entry) -> Result<bool, Memory>
+    fn enter(&mut self, entry: &Entry) -> bool
         requires { IsSomeOrder self.old }
-        ensures { IfOk result (λ stands. (script : ScriptTold) (entries : List EntryTold)
-            → MayStand script entries → IsOrderBehind script entries self.old
-            → EntersOne script entries entry.now self.new stands) }
+        ensures { (script : ScriptTold) (entries : List EntryTold) → MayStand script entries
+            → IsOrderBehind script entries self.old
+            → EntersOne script entries entry.now self.new result }
     {
         let Some(index) = (entry.session as usize).checked_sub(1) else {
-            return Ok(false);
+            return false;
         };
         let Some(session) = self.sessions.get_mut(index) else {
-            return Ok(false);
+            return false;
         };
-        if session.phase < self.phase {
-            return Ok(false);
-        }
         let phase = session.phase;
+        if phase < self.phase {
+            return false;
+        }
         let Some(commits) = session.enter(entry.first, entry.last) else {
-            return Ok(false);
+            return false;
         };
-        let outcome = self.outcome(commits)?;
-        if outcome != entry.outcome {
-            return Ok(false);
+        if !self.ends_so(commits, entry.outcome) {
+            return false;
         }
         self.phase = phase;
-        if let Outcome::Committed(number) = outcome {
+        if let Outcome::Committed(number) = entry.outcome {
             self.commits = number;
         }
-        Ok(true)
+        true
     }
 
     /// Enters transactions in turn. The number of the first that may not stand behind those before it, if there is one.
@@ -166,7 +166,7 @@ impl Order {
         ensures { IfOk result (EntersAll script entries.now self.new) }
     {
         for (index, entry) in entries.iter().enumerate() {
-            if !self.enter(entry)? {
+            if !self.enter(entry) {
                 return Ok(Some(counted(index)?));
             }
         }
