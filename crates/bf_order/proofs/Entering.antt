@@ -1,12 +1,13 @@
 -- One more entry behind others: whether it may stand there.
-use Rattle.std.proofs.Common.{◌≡◌, ℕ, zero, suc, ◌+◌, ◌-◌, ◌<◌, ◌≤◌, Bool, true, false, cond, not, ◌&&◌, ◌||◌, ◌==◌, nat_le, nat_lt, IsTrue, List, [], ◌∷◌, ◌++◌, length, map, take, get_or, set, Option, None, Some, refl, sym, ap, ap₂, subst, ◌∙◌, inl, inr, ◌⊎◌, append_assoc, add-one, arith}
+use Rattle.std.proofs.Common.{◌≡◌, ℕ, zero, suc, ◌+◌, ◌-◌, ◌<◌, ◌≤◌, Bool, true, false, cond, not, ◌&&◌, ◌||◌, ◌==◌, nat_le, nat_lt, IsTrue, List, [], ◌∷◌, ◌++◌, length, map, take, get_or, set, Option, None, Some, refl, sym, ap, ap₂, subst, ◌∙◌, inl, inr, ◌⊎◌, append_assoc, add-one, length-append, arith}
 use Rattle.std.specs.Prelude.{max, slice_index_or}
 use Rattle.std.specs.List.{list_any, list_all}
 use Rattle.std.specs.Ordering.{nat_cmp}
 use Rattle.std.proofs.lemmas.Bool.{and_from, and_parts, cases_Bool, false≢true, or_left, or_right}
 use Rattle.std.proofs.lemmas.Bool.Decides.{nat_tests}
+use Rattle.std.proofs.Math.Seq.{get_or-append_seam}
 use Rattle.std.proofs.lemmas.Grind.{get_or-set_at}
-use Rattle.std.proofs.lemmas.List.{append-nil, append_cancel_left, get_or-map, get_or_default, get_or_past, get_or-set_other, get_or-set_same, length-map, length-set, map-append}
+use Rattle.std.proofs.lemmas.List.{append-nil, append_cancel_left, get_or-map, get_or_append_left, get_or_default, get_or_past, take_more, get_or-set_other, get_or-set_same, length-map, length-set, map-append}
 use Rattle.std.proofs.lemmas.List.Folds.{list_all-append, list_any-append, list_any_at}
 use Rattle.bf_base.specs.Lists.{part, rises, with_before, with_before_from}
 use Rattle.bf_sql.specs.Groups.{commits, groups_in, groups_of, no_session, outcome_by, outcomes_from, session_at, statements_of}
@@ -18,7 +19,8 @@ use Rattle.bf_tree.specs.declared.history.Outcome.TheVariants.{Committed, Rolled
 use Rattle.bf_tree.specs.declared.script.Script.{Script}
 use Rattle.bf_tree.specs.declared.script.Session.{Session}
 use Rattle.bf_tree.specs.declared.statement.Statement.{Statement}
-use Rattle.bf_verdict.specs.Verdicts.{MayStand}
+use Rattle.bf_verdict.specs.Verdicts.{IsBadEntry, MayStand}
+use Rattle.bf_verdict.proofs.Fronts.{take_stands}
 use Rattle.bf_order.specs.Groups.{AreListed, group_at, unlisted}
 use Rattle.bf_order.specs.declared.groups.Group.{Group}
 use Rattle.bf_order.specs.Entries.{EntersAt, EntersGroup, EntersOne, IsOrderBehind, IsPlaceOf, IsSessionBehind, is_entered, latest_phase, listed, phase_of, reach_of, reached_in}
@@ -143,8 +145,8 @@ module _ (script : Script) (es : List Entry) (e : Entry) where
   outcome_from front stands =
       let o : Entry → Outcome = λ d. d.outcome in
       let same : map o es ++ e.outcome ∷ [] ≡ map o es ++ (outcome_by (commits (statements_of script e)) (1 + commits_of es)).0 ∷ [] =
-          sym (map-append o es (e ∷ [])) ∙ stands.outcomes ∙ outcomes_end (statements_of script) 1 es e front.outcomes
-          ∙ ap (λ (os : List Outcome). os ++ (outcome_by (commits (statements_of script e)) (1 + commits_of es)).0 ∷ []) (sym front.outcomes) in
+      sym (map-append o es (e ∷ [])) ∙ stands.outcomes ∙ outcomes_end (statements_of script) 1 es e front.outcomes
+      ∙ ap (λ (os : List Outcome). os ++ (outcome_by (commits (statements_of script e)) (1 + commits_of es)).0 ∷ []) (sym front.outcomes) in
       let last = append_cancel_left (map o es) (e.outcome ∷ []) ((outcome_by (commits (statements_of script e)) (1 + commits_of es)).0 ∷ []) same in
       let is : e.outcome ≡ (outcome_by (commits (statements_of script e)) (1 + commits_of es)).0 = cc in
       is ∙ count_from_one
@@ -358,14 +360,14 @@ module _ (script : Script) (es : List Entry) (e : Entry) where
             ∙ ap₂ (λ (ls : List Listed) (z : Group). set ls at.place (record { group = z; is_entered = true })) behind.groups (sym same)
             ∙ sym (marked es e e.session session.statements 1 gs at.place no_group refl (groups_laid session.statements) inside first_is);
         reached = (let order_so = laid_order session.statements 1 gs at.place no_group (groups_laid session.statements) inside in
-        let f = first_is in
-        let l = last_is in
-        let r = at.reached in
-        let before = at.behind in
-        let was = behind.reached in
-        let end = reached_end e.session es e in
-        let here = reach_here in
-        omega arith);
+            let f = first_is in
+            let l = last_is in
+            let r = at.reached in
+            let before = at.behind in
+            let was = behind.reached in
+            let end = reached_end e.session es e in
+            let here = reach_here in
+            omega arith);
       }
 
       elsewhere : (s : ℕ) (z : Session) (found : SessionGroups) → (e.session == s) ≡ false → IsSessionBehind es s z found → IsSessionBehind (es ++ e ∷ []) s z found
@@ -373,9 +375,9 @@ module _ (script : Script) (es : List Entry) (e : Entry) where
         phase = was.phase;
         groups = was.groups ∙ sym (other_session es e s z.statements (groups_of z.statements) apart);
         reached = (let r = was.reached in
-        let none : reach_of s e ≡ 0 = ap (λ (t : Bool). cond t e.last 0) apart in
-        let end = reached_end s es e in
-        omega arith);
+            let none : reach_of s e ≡ 0 = ap (λ (t : Bool). cond t e.last 0) apart in
+            let end = reached_end s es e in
+            omega arith);
       }
 
       pub order_behind : (index : ℕ) (now : Order) → e.session ≡ index + 1 → now.sessions.items ≡ set order.sessions.items index new
@@ -400,7 +402,7 @@ module _ (script : Script) (es : List Entry) (e : Entry) where
                     (subst (λ (n : ℕ). IsSessionBehind (es ++ e ∷ []) n (session_at script n) new) number new_behind)
                 | inr other ↦
                     let as_before : get_or now.sessions.items i d ≡ get_or order.sessions.items i d =
-                        ap (λ (xs : List SessionGroups). get_or xs i d) sessions ∙ get_or-set_other order.sessions.items index i new d other in
+                    ap (λ (xs : List SessionGroups). get_or xs i d) sessions ∙ get_or-set_other order.sessions.items index i new d other in
                     let apart : (e.session == i + 1) ≡ false = grind (arith, nat_tests) in
                     subst (λ (z : SessionGroups). IsSessionBehind (es ++ e ∷ []) (i + 1) (session_at script (i + 1)) z) (sym as_before)
                     (elsewhere (i + 1) (session_at script (i + 1)) (get_or order.sessions.items i d) apart (so.sessions i d there))
@@ -434,3 +436,39 @@ committed_number false n k is = absurd cc
 pub not_counted : (o : Outcome) → ((k : ℕ) → o ≡ Committed k → ⊥) → commit_of o ≡ 0
 not_counted (Committed k) other = absurd (other k refl)
 not_counted RolledBack other = refl
+
+-- ---- the first that may not stand
+
+take-take : {X : Type 0} (j i : ℕ) (xs : List X) → j ≤ i → take j (take i xs) ≡ take j xs
+take-take zero i xs low = refl
+take-take (suc j) zero xs low = absurd (omega arith)
+take-take (suc j) (suc i) [] low = refl
+take-take (suc j) (suc i) (x ∷ xs) low = ap (λ zs. x ∷ zs) (take-take j i xs (omega arith))
+
+pub bad_next : (script : Script) (entries : List Entry) (index : ℕ) (d : Entry) → index < length entries → MayStand script (take index entries)
+    → (MayStand script (take index entries ++ get_or entries index d ∷ []) → ⊥) → (k : ℕ) → k ≡ index + 1 → IsBadEntry script entries k
+bad_next script entries index d below stands bad k is = record {
+  within = omega arith;
+  bad = λ all. bad (subst (MayStand script) (ap (λ (n : ℕ). take n entries) is ∙ take_more entries index d below) all);
+  good_before = λ j before.
+      subst (MayStand script) (take-take j index entries (omega arith)) (take_stands script j (take index entries) stands);
+}
+
+-- ---- one more session before the first entry
+
+pub one_more : (script : Script) (found : List SessionGroups) (new : SessionGroups) (session : Session) (index : ℕ) → length found ≡ index → index < length script.sessions
+    → session ≡ get_or script.sessions index session
+    → (new.phase ≡ session.phase) × (new.groups.items ≡ unlisted session.statements) × (new.reached ≡ 0)
+    → ((i : ℕ) (d : SessionGroups) → i < length found → IsSessionBehind [] (i + 1) (session_at script (i + 1)) (get_or found i d))
+    → (i : ℕ) (d : SessionGroups) → i < length (found ++ new ∷ []) → IsSessionBehind [] (i + 1) (session_at script (i + 1)) (get_or (found ++ new ∷ []) i d)
+one_more script found new session index count below is about each i d within = elim (same_index i index) [
+  | inl here ↦
+      let place : i ≡ length found = omega arith in
+      let item : get_or (found ++ new ∷ []) i d ≡ new = ap (λ (n : ℕ). get_or (found ++ new ∷ []) n d) place ∙ get_or-append_seam found new [] d in
+      subst (λ (z : SessionGroups). IsSessionBehind [] (i + 1) (session_at script (i + 1)) z) (sym item)
+      (subst (λ (z : Session). IsSessionBehind [] (i + 1) z new) (sym (ap (λ (n : ℕ). session_at script (n + 1)) here ∙ session_is script index session below is))
+      (begins (i + 1) session new about.0 about.1 about.2))
+  | inr other ↦
+      let low : i < length found = (let size = length-append found (new ∷ []) in omega arith) in
+      subst (λ (z : SessionGroups). IsSessionBehind [] (i + 1) (session_at script (i + 1)) z) (sym (get_or_append_left found (new ∷ []) d i low)) (each i d low)
+]

@@ -11,7 +11,6 @@ use Rattle.bf_order.specs.Entries.{IsPlaceOf}
 use Rattle.bf_order.specs.Groups.{AreListed}
 use Rattle.bf_order.specs.declared.order.Listed.{Listed}
 
-
 tied : (a b : ℕ) → a ≡ b → nat_cmp a b ≡ Equal
 tied a b is = ap (nat_cmp a) (sym is) ∙ tied_itself nat_cmp_total a
 

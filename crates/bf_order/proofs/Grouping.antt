@@ -94,7 +94,7 @@ module _ (ss : List Statement) where
     pub begin_next : GroupsSo ss index None groups → s ≡ Begin → GroupsSo ss (index + 1) (Some (index + 1)) groups
     begin_next so is =
         let here : groups_from (index + 1) None (drop index ss) ≡ groups_from (index + 1 + 1) (Some (index + 1)) (drop (index + 1) ss) =
-            ap (groups_from (index + 1) None) (split ∙ ap (λ (z : Statement). z ∷ drop (index + 1) ss) is) in
+        ap (groups_from (index + 1) None) (split ∙ ap (λ (z : Statement). z ∷ drop (index + 1) ss) is) in
         record {
           within = omega arith;
           found = ap (λ (z : List (ℕ × ℕ)). groups ++ map (group_at ss) z) (sym here) ∙ so.found;
@@ -104,7 +104,7 @@ module _ (ss : List Statement) where
     pub stray_next : GroupsSo ss index None groups → ends_block s ≡ true → GroupsSo ss (index + 1) None groups
     stray_next so ends =
         let here : groups_from (index + 1) None (drop index ss) ≡ groups_from (index + 1 + 1) None (drop (index + 1) ss) =
-            ap (groups_from (index + 1) None) split ∙ stray_group (index + 1) s (drop (index + 1) ss) ends in
+        ap (groups_from (index + 1) None) split ∙ stray_group (index + 1) s (drop (index + 1) ss) ends in
         record { within = omega arith; found = ap (λ (z : List (ℕ × ℕ)). groups ++ map (group_at ss) z) (sym here) ∙ so.found; block = Closed }
 
     abbrev alone : Group
@@ -114,10 +114,10 @@ module _ (ss : List Statement) where
     alone_next so ends other =
         let left = groups_from (index + 1 + 1) None (drop (index + 1) ss) in
         let here : groups_from (index + 1) None (drop index ss) ≡ (index + 1, index + 1) ∷ left =
-            ap (groups_from (index + 1) None) split ∙ one_group (index + 1) s (drop (index + 1) ss) ends other in
+        ap (groups_from (index + 1) None) split ∙ one_group (index + 1) s (drop (index + 1) ss) ends other in
         let same : group_at ss (index + 1, index + 1) ≡ alone =
-            ap (λ (t : Bool). record { first = index + 1; last = index + 1; commits = t })
-            (ap commits (part_alone ss index s below at) ∙ alone_commits s other) in
+        ap (λ (t : Bool). record { first = index + 1; last = index + 1; commits = t })
+        (ap commits (part_alone ss index s below at) ∙ alone_commits s other) in
         record {
           within = omega arith;
           found = append_assoc groups (alone ∷ []) (map (group_at ss) left)
@@ -140,9 +140,9 @@ module _ (ss : List Statement) where
       end_next so ends committing commits_so =
           let left = groups_from (index + 1 + 1) None (drop (index + 1) ss) in
           let here : groups_from (index + 1) (Some b) (drop index ss) ≡ (b, index + 1) ∷ left =
-              ap (groups_from (index + 1) (Some b)) split ∙ last_group (index + 1) b s (drop (index + 1) ss) ends in
+          ap (groups_from (index + 1) (Some b)) split ∙ last_group (index + 1) b s (drop (index + 1) ss) ends in
           let same : group_at ss (b, index + 1) ≡ ended committing =
-              ap (λ (t : Bool). record { first = b; last = index + 1; commits = t }) (end_of so.block ∙ commits_so) in
+          ap (λ (t : Bool). record { first = b; last = index + 1; commits = t }) (end_of so.block ∙ commits_so) in
           record {
             within = omega arith;
             found = append_assoc groups (ended committing ∷ []) (map (group_at ss) left)
@@ -161,7 +161,7 @@ module _ (ss : List Statement) where
       pub inner_next : GroupsSo ss index (Some b) groups → ends_block s ≡ false → GroupsSo ss (index + 1) (Some b) groups
       inner_next so ends =
           let here : groups_from (index + 1) (Some b) (drop index ss) ≡ groups_from (index + 1 + 1) (Some b) (drop (index + 1) ss) =
-              ap (groups_from (index + 1) (Some b)) split ∙ inner_group (index + 1) b s (drop (index + 1) ss) ends in
+          ap (groups_from (index + 1) (Some b)) split ∙ inner_group (index + 1) b s (drop (index + 1) ss) ends in
           record { within = omega arith; found = ap (λ (z : List (ℕ × ℕ)). groups ++ map (group_at ss) z) (sym here) ∙ so.found; block = longer so.block ends }
 
   -- ---- behind the last statement
@@ -180,7 +180,7 @@ module _ (ss : List Statement) where
       let size : length ss ≡ index = omega arith in
       let last : (index + 1) - 1 ≡ index = omega arith in
       let same : record { first = b; last = length ss; commits = false } ≡ group_at ss (b, index) =
-          λ i. record { first = b; last = size i; commits = sym (open_commits index b so.block) i } in
+      λ i. record { first = b; last = size i; commits = sym (open_commits index b so.block) i } in
       ap (λ (g : Group). groups ++ g ∷ []) same
       ∙ ap (λ (m : ℕ). groups ++ map (group_at ss) ((b, m) ∷ [])) (sym last)
       ∙ ap (λ (z : List Statement). groups ++ map (group_at ss) (groups_from (index + 1) (Some b) z)) (sym (drop_all index ss end)) ∙ so.found

@@ -66,9 +66,10 @@ module _ (ss : List Statement) where
 
   laid_both : (rest : List Statement) (index : ℕ) → index ≤ length ss → drop index ss ≡ rest → BothLaid index rest
   laid_both [] index within e =
-      let size : length ss - index ≡ 0 = sym (length-drop index ss) ∙ ap length e in
-      ((λ k low high. absurd (omega arith)),
-      (λ b some began. (omega arith, omega arith, omega arith, (λ k low high. absurd (omega arith)), (λ k low high. absurd (omega arith)))))
+      let size : length ss - index ≡ 0 = sym (length-drop index ss) ∙ ap length e in (
+        (λ k low high. absurd (omega arith)),
+        (λ b some began. (omega arith, omega arith, omega arith, (λ k low high. absurd (omega arith)), (λ k low high. absurd (omega arith)))),
+      )
   laid_both (Begin ∷ rest) index within e =
       let n = next index Begin rest e in
       let below = n.below in
@@ -77,21 +78,24 @@ module _ (ss : List Statement) where
   laid_both (Commit ∷ rest) index within e =
       let n = next index Commit rest e in
       let below = n.below in
-      let more = laid_both rest (index + 1) (omega arith) n.behind in
-      (one_earlier (index + 1) (groups_from (index + 1 + 1) None rest) (is_end_by index Commit rest n refl) more.0,
-      (λ b some began. ended index b (groups_from (index + 1 + 1) None rest) below (omega arith) more.0))
+      let more = laid_both rest (index + 1) (omega arith) n.behind in (
+        one_earlier (index + 1) (groups_from (index + 1 + 1) None rest) (is_end_by index Commit rest n refl) more.0,
+        (λ b some began. ended index b (groups_from (index + 1 + 1) None rest) below (omega arith) more.0),
+      )
   laid_both (Rollback ∷ rest) index within e =
       let n = next index Rollback rest e in
       let below = n.below in
-      let more = laid_both rest (index + 1) (omega arith) n.behind in
-      (one_earlier (index + 1) (groups_from (index + 1 + 1) None rest) (is_end_by index Rollback rest n refl) more.0,
-      (λ b some began. ended index b (groups_from (index + 1 + 1) None rest) below (omega arith) more.0))
+      let more = laid_both rest (index + 1) (omega arith) n.behind in (
+        one_earlier (index + 1) (groups_from (index + 1 + 1) None rest) (is_end_by index Rollback rest n refl) more.0,
+        (λ b some began. ended index b (groups_from (index + 1 + 1) None rest) below (omega arith) more.0),
+      )
   laid_both (s ∷ rest) index within e =
       let n = next index s rest e in
       let below = n.below in
-      let more = laid_both rest (index + 1) (omega arith) n.behind in
-      (ended index (index + 1) (groups_from (index + 1 + 1) None rest) below (omega arith) more.0,
-      (λ b some began. more.1 b some (omega arith)))
+      let more = laid_both rest (index + 1) (omega arith) n.behind in (
+        ended index (index + 1) (groups_from (index + 1 + 1) None rest) below (omega arith) more.0,
+        (λ b some began. more.1 b some (omega arith)),
+      )
 
   pub groups_laid : Laid 1 (groups_of ss)
   groups_laid = (laid_both ss 0 (omega arith) refl).0

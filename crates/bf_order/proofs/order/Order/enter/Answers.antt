@@ -46,7 +46,7 @@ returns-then-not-ends_so c = λ script entries stands so.
     let order = c.args.self.now in
     let behind = behind_at script entries e order so c.in-Some.index number old item.0 item.1 in
     let at = rw c.in-Some-enter.is at c.enter.ensures in
-    other_outcome script entries e order stands so old behind c.enter.new.self c.in-Some-enter.commits at ?
+    other_outcome script entries e order stands so old behind c.enter.new.self c.in-Some-enter.commits at (c.ends_so.ensures.no c.if-not-ends_so.true)
 
 pub returns-in-Committed : goal.returns-in-Committed
 returns-in-Committed c = λ script entries stands so.
@@ -59,9 +59,29 @@ returns-in-Committed c = λ script entries stands so.
     let at = rw c.in-Some-enter.is at c.enter.ensures in
     let new = c.enter.new.self in
     let commits = c.in-Some-enter.commits in
-    let outcome = c.ends_so.ensures.yes ? in
+    let outcome = c.ends_so.ensures.yes c.if-not-ends_so.false in
     let low = c.if-phase-self.false in
-    let is = c.in-Committed.is in
-    (stands_now script entries e order stands so old behind new commits at low outcome,
-    order_behind script entries e order stands so old behind new commits at c.in-Some.index _ number refl low refl
-    (committed_number commits (order.commits + 1) c.in-Committed.number (sym is ∙ outcome) ∙ ap (λ (n : ℕ). order.commits + n) (sym (ap commit_of is))))
+    let is = c.in-Committed.is in (
+      stands_now script entries e order stands so old behind new commits at low outcome,
+      order_behind script entries e order stands so old behind new commits at c.in-Some.index _ number refl low refl
+          (committed_number commits (order.commits + 1) c.in-Committed.number (sym is ∙ outcome) ∙ ap (λ (n : ℕ). order.commits + n) (sym (ap commit_of is))),
+    )
+
+pub returns-in_default-outcome : goal.returns-in_default-outcome
+returns-in_default-outcome c = λ script entries stands so.
+    let number : c.args.entry.now.session ≡ c.in-Some.index + 1 = omega (arith, c.in-Some.ensures) in
+    let item = c.in-Some-get_mut.ensures.item.3 in
+    let old = c.in-Some-get_mut.session.now in
+    let e = c.args.entry.now in
+    let order = c.args.self.now in
+    let behind = behind_at script entries e order so c.in-Some.index number old item.0 item.1 in
+    let at = rw c.in-Some-enter.is at c.enter.ensures in
+    let new = c.enter.new.self in
+    let commits = c.in-Some-enter.commits in
+    let outcome = c.ends_so.ensures.yes c.if-not-ends_so.false in
+    let low = c.if-phase-self.false in
+    let none = not_counted e.outcome c.in_default-outcome.not-Committed in (
+      stands_now script entries e order stands so old behind new commits at low outcome,
+      order_behind script entries e order stands so old behind new commits at c.in-Some.index _ number refl low refl
+          (omega (arith, none)),
+    )
