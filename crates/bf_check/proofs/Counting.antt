@@ -46,7 +46,7 @@ group_same m n in_block db (s ∷ ss) =
     let first = executed_same m n db in_block s in
     let later = group_same m n true (executed n db in_block s).1 ss in
     let next : run_group (m + n) true (executed (m + n) db in_block s).1 ss ≡ run_group (m + n) true (executed n db in_block s).1 ss =
-        ap (λ (z : Database). run_group (m + n) true z ss) first.database in
+    ap (λ (z : Database). run_group (m + n) true z ss) first.database in
     record {
       replies = ap₂ (λ (r : Reply) (rs : List Reply). r ∷ rs) first.reply
           (ap (λ (z : List Reply × Database). map (counted_from m) z.0) next ∙ later.replies);

@@ -14,10 +14,6 @@ use Rattle.bf_tree.specs.declared.statement.Statement.{Statement}
 use Rattle.bf_verdict.specs.Accepted.{AnyCause, IsAuditOf, none_open, rows_counted}
 use Rattle.bf_verdict.specs.Reports.{Parts}
 use Rattle.bf_verdict.specs.Verdicts.{IsBadEntry, IsFirst, IsFirstApart, MayStand, places_of}
-use Rattle.bf_check.specs.Groups.{group_at}
-use Rattle.bf_check.specs.declared.order.Listed.{Listed}
-use Rattle.bf_check.specs.declared.order.Order.{Order}
-use Rattle.bf_check.specs.declared.order.SessionGroups.{SessionGroups}
 use Rattle.bf_check.specs.declared.replay.Replay.{Replay}
 
 -- what is judged: a script, the database that it is run over, and what a report tells; with the entries that were run, and those to come

@@ -1,9 +1,9 @@
 //! Whether a report is accepted.
 
-use crate::order::Order;
 use crate::replay::Replay;
 use crate::{audit, rest};
 use bf_base::Memory;
+use bf_order::Order;
 use bf_report::{Reading, ReportError, read_report};
 use bf_tree::Script;
 use bf_verdict::{LONGEST_REPORT, Verdict};

@@ -5,8 +5,6 @@
 mod audit;
 pub mod checking;
 mod files;
-mod groups;
-mod order;
 pub mod program;
 mod replay;
 mod rest;

@@ -6,9 +6,9 @@ ghost use Rattle.bf_report.specs.Reading.{IsReadingOf};
 ghost use Rattle.bf_verdict.specs.Beginning.{IsWithinLimits, database_behind};
 ghost use Rattle.bf_verdict.specs.Verdicts.{MayStand};
 
-use crate::groups::groups_of;
 use bf_base::Memory;
 use bf_eager::Eager;
+use bf_order::groups_of;
 use bf_report::{Place, Reading, behind_reply};
 use bf_tree::{Entry, Outcome, Reply, Script, Session};
 use std::alloc::Global;

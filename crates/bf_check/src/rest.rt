@@ -1,12 +1,12 @@
 //! The statements of a script that stand in no entry.
 
 ghost use Rattle.std.specs.Prelude.{IfOk};
-ghost use Rattle.bf_check.specs.Judging.{IsOrderBehind, Judged, JudgesRest};
+ghost use Rattle.bf_check.specs.Judging.{Judged, JudgesRest};
+ghost use Rattle.bf_order.specs.Entries.{IsOrderBehind};
 ghost use Rattle.bf_report.specs.Reading.{IsReadingOf};
 
-use crate::groups::{Group, counted};
-use crate::order::{Listed, Order};
 use bf_base::Memory;
+use bf_order::{Group, Listed, Order, counted};
 use bf_report::{Place, Reading, behind_reply, cause_line};
 use bf_tree::{Refusal, Reply};
 

@@ -68,7 +68,7 @@ alone_commits s other = refl
 
 -- ---- a loop over a session
 
-part_more : (ss : List Statement) (b index : ℕ) (s : Statement) → 1 ≤ b → b ≤ index + 1 → index < length ss → s ≡ get_or ss index s
+pub part_more : (ss : List Statement) (b index : ℕ) (s : Statement) → 1 ≤ b → b ≤ index + 1 → index < length ss → s ≡ get_or ss index s
     → part b (index + 1) ss ≡ part b index ss ++ s ∷ []
 part_more ss b index s first order below at =
     between_more ss (b - 1) index s (omega arith) below ∙ ap (λ (z : Statement). part b index ss ++ z ∷ []) (sym at)

@@ -39,12 +39,12 @@ module _ (ss : List Statement) where
   one_earlier n (g ∷ gs) here more = (let low = more.0 in omega arith, more.1, more.2, ends_more n g.0 here more.3, more.4)
 
   -- where a statement stands that is next
-  record Next (index : ℕ) (s : Statement) (rest : List Statement) : Type 0 where
-    below : index < length ss
-    at : s ≡ get_or ss index s
-    behind : drop (index + 1) ss ≡ rest
+  pub record Next (index : ℕ) (s : Statement) (rest : List Statement) : Type 0 where
+    pub below : index < length ss
+    pub at : s ≡ get_or ss index s
+    pub behind : drop (index + 1) ss ≡ rest
 
-  next : (index : ℕ) (s : Statement) (rest : List Statement) → drop index ss ≡ s ∷ rest → Next index s rest
+  pub next : (index : ℕ) (s : Statement) (rest : List Statement) → drop index ss ≡ s ∷ rest → Next index s rest
   next index s rest e =
       let size : length ss - index ≡ length (s ∷ rest) = sym (length-drop index ss) ∙ ap length e in
       let below : index < length ss = omega arith in

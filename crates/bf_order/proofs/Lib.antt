@@ -2,3 +2,4 @@ pub mod Entering
 pub mod Finding
 pub mod Grouping
 pub mod Laying
+pub mod Whole
