@@ -12,11 +12,7 @@ use Rattle.bf_sql.specs.History.{commits_with, run_group, settled}
 use Rattle.bf_sql.specs.Meaning.{effect, executed, unless_refused}
 use Rattle.bf_sql.specs.Objections.{objections}
 use Rattle.bf_sql.specs.RowObjections.{row_objections}
-
--- a reply whose commit is counted behind so many
-abbrev pub counted_from : ℕ → Reply → Reply
-counted_from m (reply.Committed n) = reply.Committed (n - m)
-counted_from m other = other
+use Rattle.bf_check.specs.Judging.{counted_from}
 
 -- the same reply but for the number of its commit, and the same database
 pub record SameBut (m : ℕ) (one other : Reply × Database) : Type 0 where

@@ -1,13 +1,23 @@
 -- ON THE WAY to a verdict: what is found of entries, replies and tables.
-use Rattle.std.specs.Prelude.{◌≡◌, ◌≢◌, ℕ, ◌+◌, ◌<◌, Bool, true, false, ◌&&◌, ◌==◌, if◌then◌else◌, max, List, [], ◌∷◌, ◌++◌, length, map, zip, slice_index_or, slice_set, Option, None, Some, ⊤}
-use Rattle.std.specs.List.{AllByRecursion, list_any}
+use Rattle.std.specs.Prelude.{flat_map, ◌≡◌, ◌≢◌, ℕ, ◌+◌, ◌-◌, ◌<◌, ◌≤◌, Bool, true, false, ◌&&◌, ◌==◌, if◌then◌else◌, max, List, [], ◌∷◌, ◌++◌, length, map, zip, slice_index_or, slice_set, Option, None, Some, IsTrue}
+use Rattle.std.specs.List.{AllByRecursion, list_all, range_with_len}
+use Rattle.bf_report.specs.Behind.{reply_is_told}
+use Rattle.bf_report.specs.Reading.{RepliesStandAt}
 use Rattle.bf_sql.specs.Database.{Database}
-use Rattle.bf_sql.specs.Groups.{groups_of, session_at, statements_of}
-use Rattle.bf_sql.specs.History.{IsApart, apart, commits_with, replayed, settled, told}
+use Rattle.bf_base.specs.Lists.{part}
+use Rattle.bf_eager.specs.Eager.{IsWholeGroup, outcome_of}
+use Rattle.bf_sql.specs.Groups.{commits, groups_in, statements_in, statements_of}
+use Rattle.bf_sql.specs.History.{IsApart, apart, commits_with, is_whole_group, replayed, settled, told}
 use Rattle.bf_text.specs.Report.{commits_of}
+use Rattle.bf_verdict.specs.Beginning.{SessionGroup}
 use Rattle.bf_tree.specs.declared.history.Entry.{Entry}
+use Rattle.bf_tree.specs.declared.history.Outcome.{Outcome}
+use Rattle.bf_tree.specs.declared.history.Outcome.TheVariants.{Committed, RolledBack}
 use Rattle.bf_tree.specs.declared.history.Sweep.{Sweep}
+use Rattle.bf_tree.specs.declared.reply.Cause.{Cause}
 use Rattle.bf_tree.specs.declared.reply.Reply.{Reply}
+use Rattle.bf_tree.specs.declared.reply.Reply.TheVariants.{Ended}
+use Rattle.bf_tree.specs.declared.reply.Reply.TheVariants as reply
 use Rattle.bf_tree.specs.declared.script.Script.{Script}
 use Rattle.bf_tree.specs.declared.script.Session.{Session}
 use Rattle.bf_tree.specs.declared.statement.Statement.{Statement}
@@ -15,15 +25,7 @@ use Rattle.bf_verdict.specs.Accepted.{AnyCause, IsAuditOf, none_open, rows_count
 use Rattle.bf_verdict.specs.Reports.{Parts}
 use Rattle.bf_verdict.specs.Verdicts.{IsBadEntry, IsFirst, IsFirstApart, MayStand, places_of}
 use Rattle.bf_check.specs.declared.replay.Replay.{Replay}
-
--- what is judged: a script, the database that it is run over, and what a report tells; with the entries that were run, and those to come
--- behind the next
-pub record Judged : Type 0 where
-  pub start : Database
-  pub script : Script
-  pub parts : Parts
-  pub done : List Entry
-  pub later : List Entry
+use Rattle.bf_check.specs.declared.told.Told.{Told}
 
 -- the tables of an audit, and what the last line tells
 pub record Audited : Type 0 where
@@ -31,7 +33,64 @@ pub record Audited : Type 0 where
   pub commits : ℕ
   pub sweep : Sweep
 
--- ---- replies
+-- ---- what a report tells a session
+
+-- its replies stand where they are said to stand, and each is told by its text
+pub record IsTelling (told : Told) (replies : List Reply) : Type 0 where
+  pub some : 1 ≤ told.session
+  pub stand : RepliesStandAt told.report.now told.session 1 told.places.now replies
+  pub fit : IsTrue (list_all reply_is_told replies)
+
+abbrev pub IsSomeTold : Told → Type 0
+IsSomeTold told = (replies : List Reply) × IsTelling told replies
+
+-- a reply that is told is the same as another, or not
+abbrev pub Tells : Bool → Reply → Reply → Type 0
+Tells true told reply = told ≡ reply
+Tells false told reply = told ≢ reply
+
+-- the cause that a reply tells
+abbrev pub IsCauseOf : Reply → Option Cause → Type 0
+IsCauseOf told None = (cause : Cause) → told ≢ Ended cause
+IsCauseOf told (Some cause) = told ≡ Ended cause
+
+-- the replies from one on and before another are all the same
+abbrev pub AreAll : List Reply → Reply → ℕ → ℕ → Type 0
+AreAll replies reply from to = (k : ℕ) (d : Reply) → from ≤ k → k < to → slice_index_or replies (k - 1) d ≡ reply
+
+-- or this is the first that is another
+abbrev pub IsOther : List Reply → Reply → ℕ → ℕ → Option ℕ → Type 0
+IsOther replies reply from to None = AreAll replies reply from to
+IsOther replies reply from to (Some n) = (from ≤ n) × (n < to) × ((d : Reply) → slice_index_or replies (n - 1) d ≢ reply) × AreAll replies reply from n
+
+-- ---- the replay
+
+-- the database behind groups of a script, each run in turn, where so many have committed before
+abbrev pub behind_turn : ℕ → Script → Database → List SessionGroup → Database
+behind_turn n script db [] = db
+behind_turn n script db (g ∷ gs) =
+    let ss = statements_in script g.0 g.1 in
+    let commit = commits_with n (outcome_of (commits ss)) in
+    behind_turn commit script (settled commit db (outcome_of (commits ss)) ss).1 gs
+
+-- a database that some groups are to be run on, and what is to stand behind them
+pub record IsTurn (script : Script) (target : Database) (rest : List SessionGroup) (replay : Replay) : Type 0 where
+  pub goes : behind_turn replay.database.commits script replay.database.database rest ≡ target
+  pub commits : replay.commits_before ≡ replay.database.commits
+
+-- the groups of session s, and those of the sessions from s on
+abbrev pub turn_of : Script → ℕ → List SessionGroup
+turn_of script s = map (λ group. (s, group)) (groups_in script s)
+
+abbrev pub turns_from : Script → ℕ → ℕ → List SessionGroup
+turns_from script s count = flat_map (turn_of script) (range_with_len s count)
+
+-- statements of a session that are one whole group, which commits or not, within the limits of the language
+pub record IsRunnable (ss : List Statement) (first last : ℕ) (committing : Bool) : Type 0 where
+  pub some : 1 ≤ first
+  pub order : first ≤ last
+  pub within : last ≤ length ss
+  pub whole : IsWholeGroup committing (part first last ss)
 
 -- the database behind some entries, and how many commits it has counted
 pub record HasReplayed (start : Database) (script : Script) (entries : List Entry) (replay : Replay) : Type 0 where
@@ -43,13 +102,36 @@ abbrev pub replies_behind : Database → Script → List Entry → Entry → Lis
 replies_behind start script done e =
     (settled (commits_with (commits_of done) e.outcome) (replayed script start done).1 e.outcome (statements_of script e)).0
 
+-- a reply whose commit is counted behind so many
+abbrev pub counted_from : ℕ → Reply → Reply
+counted_from m (reply.Committed n) = reply.Committed (n - m)
+counted_from m other = other
+
+abbrev pub is_committed : Outcome → Bool
+is_committed (Committed n) = true
+is_committed RolledBack = false
+
+-- an entry that is a whole group of the script, and ends as the text has it
+pub record EndsByText (script : Script) (e : Entry) : Type 0 where
+  pub whole : is_whole_group script e ≡ true
+  pub ends : is_committed e.outcome ≡ commits (statements_of script e)
+
+-- replies that are told from a statement on, beside others; or the first that is another
+abbrev pub AreSame : List Reply → List Reply → ℕ → ℕ → Type 0
+AreSame told others first count = (k : ℕ) (d e : Reply) → k < count → slice_index_or told (first - 1 + k) d ≡ slice_index_or others k e
+
+abbrev pub TellsFrom : List Reply → List Reply → ℕ → Option ℕ → Type 0
+TellsFrom told others first None = AreSame told others first (length others)
+TellsFrom told others first (Some n) =
+    (k : ℕ) × (k < length others) × (n ≡ first + k) × ((d e : Reply) → slice_index_or told (first - 1 + k) d ≢ slice_index_or others k e)
+    × AreSame told others first k
+
 -- an entry is told these replies, or this is its first statement that is not
-abbrev pub RunsEntry : Database → Script → Parts → List Entry → Entry → Replay → Option ℕ → Type 0
-RunsEntry start script parts done e replay None =
-    HasReplayed start script (done ++ e ∷ []) replay × (told parts.transcripts e ≡ replies_behind start script done e)
-RunsEntry start script parts done e replay (Some n) =
+abbrev pub RunsEntry : Database → Script → List (List Reply) → List Entry → Entry → Option ℕ → Type 0
+RunsEntry start script transcripts done e None = told transcripts e ≡ replies_behind start script done e
+RunsEntry start script transcripts done e (Some n) =
     (replies : Reply × Reply)
-    × IsFirst (λ p. p.1.0 ≢ p.1.1) (zip (places_of e) (zip (told parts.transcripts e) (replies_behind start script done e))) ((e.session, n), replies)
+    × IsFirst (λ p. p.1.0 ≢ p.1.1) (zip (places_of e) (zip (told transcripts e) (replies_behind start script done e))) ((e.session, n), replies)
 
 -- ---- the rest
 

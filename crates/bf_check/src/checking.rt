@@ -1,6 +1,7 @@
 //! Whether a report is accepted.
 
 use crate::replay::Replay;
+use crate::told::Told;
 use crate::{audit, rest};
 use bf_base::Memory;
 use bf_order::Order;
@@ -8,6 +9,27 @@ use bf_report::{Reading, ReportError, read_report};
 use bf_tree::Script;
 use bf_verdict::{LONGEST_REPORT, Verdict};
 use std::alloc::Global;
+
+/// Runs the transactions of a report in turn. The first statement of theirs, by its session and its number, whose reply
+/// is told to be another.
+fn first_other(
+    replay: &mut Replay,
+    script: &Script,
+    report: &[u8],
+    reading: &Reading,
+) -> Result<Option<(u32, u32)>, Memory> {
+    for entry in reading.entries.as_slice() {
+        let told = Told {
+            report,
+            session: entry.session,
+            places: reading.replies[entry.session as usize - 1].as_slice(),
+        };
+        if let Some(statement) = replay.run(script, entry, told)? {
+            return Ok(Some((entry.session, statement)));
+        }
+    }
+    Ok(None)
+}
 
 /// What is told of a report that was read.
 fn judge(
@@ -29,10 +51,8 @@ fn judge(
         return Ok(Verdict::BadEntry(entry));
     }
     let mut replay = Replay::behind(alloc, start)?;
-    for entry in &reading.entries {
-        if let Some(statement) = replay.run(script, report, reading, entry)? {
-            return Ok(Verdict::BadReply(entry.session, statement));
-        }
+    if let Some((session, statement)) = first_other(&mut replay, script, report, reading)? {
+        return Ok(Verdict::BadReply(session, statement));
     }
     if let Some((session, statement)) = rest::first_wrong(report, reading, &order)? {
         return Ok(Verdict::BadRest(session, statement));

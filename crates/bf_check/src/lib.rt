@@ -9,6 +9,7 @@ pub mod program;
 mod replay;
 mod rest;
 pub mod status;
+mod told;
 mod words;
 
 pub use bf_verdict::{LONGEST_REPORT, Verdict};

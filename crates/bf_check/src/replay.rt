@@ -1,17 +1,75 @@
 //! The one-thread database behind a report's entries, and its replies.
 
-ghost use Rattle.std.specs.Prelude.{◌≡◌, [], ◌∷◌, ◌++◌, IfOk};
-ghost use Rattle.bf_check.specs.Judging.{HasReplayed, Judged, RunsEntry};
-ghost use Rattle.bf_report.specs.Reading.{IsReadingOf};
-ghost use Rattle.bf_verdict.specs.Beginning.{IsWithinLimits, database_behind};
-ghost use Rattle.bf_verdict.specs.Verdicts.{MayStand};
+ghost use Rattle.std.specs.Prelude.{◌≡◌, ◌+◌, ◌-◌, ◌<◌, ◌≤◌, ◌^◌, ℕ, List, [], ◌∷◌, ◌++◌, length, map, slice_index_or, IfOk, IsTrue, OnErr};
+ghost use Rattle.std.specs.List.{AllByRecursion, list_all};
+ghost use Rattle.bf_base.specs.Lists.{part};
+ghost use Rattle.bf_check.specs.Judging.{EndsByText, HasReplayed, IsRunnable, IsSomeTold, IsTelling, IsTurn, Tells, TellsFrom, counted_from, replies_behind, turn_of};
+ghost use Rattle.bf_eager.specs.Eager.{ran_entry};
+ghost use Rattle.bf_sql.specs.Database.{Database};
+ghost use Rattle.bf_sql.specs.Groups.{session_at};
+ghost use Rattle.bf_tree.specs.Limits.{IsNarrowIfMigrate, is_narrow_statement};
+ghost use Rattle.bf_tree.specs.declared.history.Entry.{Entry as EntryTold};
+ghost use Rattle.bf_tree.specs.declared.reply.Reply.{Reply as ReplyTold};
+ghost use Rattle.bf_tree.specs.declared.script.Script.{Script as ScriptTold};
+ghost use Rattle.bf_verdict.specs.Beginning.{IsWithinLimits, SessionGroup, database_behind};
 
+use crate::told::Told;
 use bf_base::Memory;
 use bf_eager::Eager;
 use bf_order::groups_of;
-use bf_report::{Place, Reading, behind_reply};
-use bf_tree::{Entry, Outcome, Reply, Script, Session};
+use bf_tree::{Entry, Outcome, Reply, Script, Session, Statement};
 use std::alloc::Global;
+
+/// Runs the statements of a session from one to another, which are one whole transaction.
+fn run_part(
+    database: &mut Eager,
+    session: &[Statement],
+    first: u32,
+    last: u32,
+    commits: bool,
+) -> Result<Vec<Reply>, Memory>
+    requires { IsRunnable session.now first last commits }
+    ensures { IfOk result (λ replies. (replies.items, database.new)
+        ≡ ran_entry database.old commits (part first last session.now)) }
+{
+    database.run_entry(&session[first as usize - 1..last as usize], commits)
+}
+
+/// Whether this is the reply to a statement, where a commit is counted behind so many.
+fn tells_counted(told: Told<'_>, statement: u32, reply: &Reply, before: u64) -> bool
+    requires told { IsSomeTold told }
+    requires first { 1 ≤ statement }
+    requires within { statement ≤ length told.places.now }
+    ensures { (replies : List ReplyTold) (d : ReplyTold) → IsTelling told replies
+        → Tells result (slice_index_or replies (statement - 1) d) (counted_from before reply.now) }
+{
+    match reply {
+        Reply::Committed(number) => {
+            let counted = Reply::Committed(number.saturating_sub(before));
+            told.tells(statement, &counted)
+        }
+        other => told.tells(statement, other),
+    }
+}
+
+/// The first statement from one on whose reply is another than the one of these, where commits are counted behind so
+/// many.
+fn first_apart(told: Told<'_>, first: u32, replies: &[Reply], before: u64) -> Option<u32>
+    requires told { IsSomeTold told }
+    requires first { 1 ≤ first }
+    requires within { first + length replies.now ≤ length told.places.now + 1 }
+    requires short { first + length replies.now ≤ 2 ^ 32 }
+    ensures { (tellings : List ReplyTold) → IsTelling told tellings
+        → TellsFrom tellings (map (counted_from before) replies.now) first result }
+{
+    for index in 0..replies.len() {
+        let statement = first + index as u32;
+        if !tells_counted(told, statement, &replies[index], before) {
+            return Some(statement);
+        }
+    }
+    None
+}
 
 /// A database to run the entries of a report on, and how many transactions had committed before the first.
 #[derive(Drop)]
@@ -21,20 +79,25 @@ pub(crate) struct Replay {
 }
 
 impl Replay {
-    /// A database with nothing in it.
-    fn empty(alloc: Global) -> Replay {
-        Replay {
-            database: Eager::new(alloc),
-            commits_before: 0,
-        }
-    }
-
     /// Runs the transactions of a session, which count as those before the first entry.
-    fn run_session(&mut self, alloc: Global, session: &Session) -> Result<(), Memory> {
+    fn run_session(&mut self, alloc: Global, session: &Session) -> Result<(), Memory>
+        requires narrow { IsTrue (list_all is_narrow_statement session.now.statements) }
+        requires migrates { AllByRecursion IsNarrowIfMigrate session.now.statements }
+        ensures { IfOk result (λ _. (script : ScriptTold) (s : ℕ) (rest : List SessionGroup)
+            (target : Database) → session_at script s ≡ session.now
+            → IsTurn script target (turn_of script s ++ rest) self.old
+            → IsTurn script target rest self.new) }
+    {
         let statements = session.statements.as_slice();
-        for group in groups_of(alloc, statements)? {
-            self.database
-                .run_entry(group.statements(statements), group.commits)?;
+        let groups = groups_of(alloc, statements)?;
+        for group in groups.as_slice() {
+            run_part(
+                &mut self.database,
+                statements,
+                group.first,
+                group.last,
+                group.commits,
+            )?;
             if group.commits {
                 self.commits_before = self.commits_before.checked_add(1).ok_or(Memory)?;
             }
@@ -45,62 +108,67 @@ impl Replay {
     /// The database behind the transactions of a script, one session after the other.
     pub fn behind(alloc: Global, start: &Script) -> Result<Replay, Memory>
         requires { IsWithinLimits start.now }
-        ensures { IfOk result (HasReplayed (database_behind start.now) start.now []) }
+        ensures { IfOk result (λ replay. (script : ScriptTold)
+            → HasReplayed (database_behind start.now) script [] replay) }
     {
-        let mut replay = Replay::empty(alloc);
+        let mut replay = Replay {
+            database: Eager::new(alloc),
+            commits_before: 0,
+        };
         for session in start.sessions.as_slice() {
             replay.run_session(alloc, session)?;
         }
         Ok(replay)
     }
 
-    /// A reply, whose commit is counted from the first entry on.
-    fn counted(&self, reply: Reply) -> Reply {
-        match reply {
-            Reply::Committed(number) => {
-                Reply::Committed(number.saturating_sub(self.commits_before))
-            }
-            other => other,
-        }
+    /// Runs the transaction of an entry, and answers its replies, where each commit is counted from the first one on.
+    fn replies_to(&mut self, script: &Script, entry: &Entry) -> Result<Vec<Reply>, Memory>
+        requires limits { IsWithinLimits script.now }
+        requires ends { EndsByText script.now entry.now }
+        ensures run { IfOk result (λ replies. (start : Database) (done : List EntryTold)
+            → HasReplayed start script.now done self.old
+            → HasReplayed start script.now (done ++ entry.now ∷ []) self.new) }
+        ensures told { IfOk result (λ replies. (start : Database) (done : List EntryTold)
+            → HasReplayed start script.now done self.old
+            → map (counted_from self.new.commits_before) replies.items
+            ≡ replies_behind start script.now done entry.now) }
+    {
+        let session = script.sessions.as_slice()[entry.session as usize - 1]
+            .statements
+            .as_slice();
+        let committed = match entry.outcome {
+            Outcome::Committed(_) => true,
+            Outcome::RolledBack => false,
+        };
+        run_part(
+            &mut self.database,
+            session,
+            entry.first,
+            entry.last,
+            committed,
+        )
     }
 
     /// Runs the transaction of an entry. The number of its first statement whose reply is told to be another.
     pub fn run(
         &mut self,
         script: &Script,
-        report: &[u8],
-        reading: &Reading,
         entry: &Entry,
+        told: Told<'_>,
     ) -> Result<Option<u32>, Memory>
-        ghost judged: { Judged }
-        requires script { script.now ≡ judged.script }
         requires limits { IsWithinLimits script.now }
-        requires reading { IsReadingOf script.now report.now judged.parts reading.now }
-        requires order { MayStand script.now judged.parts.history }
-        requires next { judged.parts.history ≡ judged.done ++ entry.now ∷ judged.later }
-        requires replayed { HasReplayed judged.start script.now judged.done self.old }
-        ensures { IfOk result
-            (RunsEntry judged.start script.now judged.parts judged.done entry.now self.new) }
+        requires ends { EndsByText script.now entry.now }
+        requires told { IsSomeTold told }
+        requires within { entry.now.last ≤ length told.places.now }
+        ensures run { IfOk result (λ apart. (start : Database) (done : List EntryTold)
+            → HasReplayed start script.now done self.old
+            → HasReplayed start script.now (done ++ entry.now ∷ []) self.new) }
+        ensures told { IfOk result (λ apart. (start : Database) (done : List EntryTold)
+            (tellings : List ReplyTold) → HasReplayed start script.now done self.old
+            → IsTelling told tellings
+            → TellsFrom tellings (replies_behind start script.now done entry.now) entry.now.first apart) }
     {
-        let session = entry.session as usize - 1;
-        let first = entry.first as usize - 1;
-        let statements = script.sessions.as_slice()[session].statements.as_slice();
-        let places = &reading.replies[session][first..];
-        let committed = matches!(entry.outcome, Outcome::Committed(_));
-        let group = &statements[first..entry.last as usize];
-        let replies = self.database.run_entry(group, committed)?;
-        let mut number = entry.first;
-        for (reply, at) in replies.into_iter().zip(places) {
-            let place = Place {
-                session: u64::from(entry.session),
-                statement: u64::from(number),
-            };
-            let reply = self.counted(reply);
-            if behind_reply(&report[*at as usize..], place, &reply).is_none() {
-                return Ok(Some(number));
-            }
-            number = number.saturating_add(1);
-        }
-        Ok(None)
+        let replies = self.replies_to(script, entry)?;
+        Ok(first_apart(told, entry.first, replies.as_slice(), self.commits_before))
     }
 }

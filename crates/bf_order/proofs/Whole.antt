@@ -74,16 +74,17 @@ module _ (ss : List Statement) where
   alone index s rest n whole = subst IsWhole (sym (part_alone ss index s n.below n.at)) whole
 
   both_whole : (rest : List Statement) (index : ℕ) → drop index ss ≡ rest → BothWhole index rest
-  both_whole [] index e =
-      (tt,
-      (λ b began.
-          let last : index + 1 - 1 ≡ index = omega arith in
-          (subst IsWhole (sym (ap (λ (k : ℕ). part b k ss) last ∙ began.is)) (whole_on began.inner began.on), tt)))
+  both_whole [] index e = (
+    tt,
+    (λ b began.
+        let last : index + 1 - 1 ≡ index = omega arith in
+        (subst IsWhole (sym (ap (λ (k : ℕ). part b k ss) last ∙ began.is)) (whole_on began.inner began.on), tt)),
+  )
   both_whole (Begin ∷ rest) index e =
       let n = next ss index Begin rest e in
       let more = both_whole rest (index + 1) n.behind in
       let begins : Began (index + 1) (index + 1) =
-          record { some = omega arith; low = omega arith; inner = []; is = part_alone ss index Begin n.below n.at; on = refl } in
+      record { some = omega arith; low = omega arith; inner = []; is = part_alone ss index Begin n.below n.at; on = refl } in
       (more.1 (index + 1) begins, (λ b began. more.1 b (longer index b Begin rest n refl began)))
   both_whole (Commit ∷ rest) index e =
       let n = next ss index Commit rest e in

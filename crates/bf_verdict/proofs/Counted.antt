@@ -67,7 +67,7 @@ rows_counted : (rows : List (List Cell)) → IsTrue (list_all (λ row. list_all 
 rows_counted rows h =
     all_counted (λ row. list_all cell_has_room row) (λ row. flat_map numbers_in_cell row) (λ row k. all_counted cell_has_room numbers_in_cell cell_counted row k) rows h
 
-reply_counted : (r : Reply) → IsTrue (reply_has_room r) → IsTrue (are_u64 (numbers_in r))
+pub reply_counted : (r : Reply) → IsTrue (reply_has_room r) → IsTrue (are_u64 (numbers_in r))
 reply_counted (reply.Inserted k) h = alone k (short k h)
 reply_counted (reply.Updated k) h = alone k (short k h)
 reply_counted (reply.Deleted k) h = alone k (short k h)
