@@ -1,3 +1,4 @@
 pub mod Counting
+pub mod Replaying
 pub mod Tables
 pub mod Telling

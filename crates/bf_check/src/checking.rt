@@ -24,7 +24,7 @@ fn first_other(
             session: entry.session,
             places: reading.replies[entry.session as usize - 1].as_slice(),
         };
-        if let Some(statement) = replay.run(script, entry, told)? {
+        if let Some(statement) = replay.run(script, entry, &told)? {
             return Ok(Some((entry.session, statement)));
         }
     }

@@ -4,7 +4,8 @@ ghost use Rattle.std.specs.Prelude.{◌≡◌, ◌+◌, ◌-◌, ◌<◌, ◌≤
 ghost use Rattle.std.specs.List.{AllByRecursion, list_all};
 ghost use Rattle.bf_base.specs.Lists.{part};
 ghost use Rattle.bf_check.specs.Judging.{EndsByText, HasReplayed, IsRunnable, IsSomeTold, IsTelling, IsTurn, Tells, TellsFrom, counted_from, replies_behind, turn_of};
-ghost use Rattle.bf_eager.specs.Eager.{ran_entry};
+ghost use Rattle.bf_eager.specs.Eager.{outcome_of, ran_entry};
+ghost use Rattle.bf_sql.specs.History.{commits_with};
 ghost use Rattle.bf_sql.specs.Database.{Database};
 ghost use Rattle.bf_sql.specs.Groups.{session_at};
 ghost use Rattle.bf_tree.specs.Limits.{IsNarrowIfMigrate, is_narrow_statement};
@@ -19,6 +20,20 @@ use bf_eager::Eager;
 use bf_order::groups_of;
 use bf_tree::{Entry, Outcome, Reply, Script, Session, Statement};
 use std::alloc::Global;
+
+/// How many transactions have committed behind one more, which commits or not.
+///
+/// # Errors
+/// Where 2 ^ 64 would have.
+fn commits_behind(commits: u64, committed: bool) -> Result<u64, Memory>
+    ensures { IfOk result (λ n. n ≡ commits_with commits (outcome_of committed)) }
+{
+    if committed {
+        commits.checked_add(1).ok_or(Memory)
+    } else {
+        Ok(commits)
+    }
+}
 
 /// Runs the statements of a session from one to another, which are one whole transaction.
 fn run_part(
@@ -36,11 +51,11 @@ fn run_part(
 }
 
 /// Whether this is the reply to a statement, where a commit is counted behind so many.
-fn tells_counted(told: Told<'_>, statement: u32, reply: &Reply, before: u64) -> bool
-    requires told { IsSomeTold told }
+fn tells_counted(told: &Told<'_>, statement: u32, reply: &Reply, before: u64) -> bool
+    requires told { IsSomeTold told.now }
     requires first { 1 ≤ statement }
-    requires within { statement ≤ length told.places.now }
-    ensures { (replies : List ReplyTold) (d : ReplyTold) → IsTelling told replies
+    requires within { statement ≤ length told.now.places.now }
+    ensures { (replies : List ReplyTold) (d : ReplyTold) → IsTelling told.now replies
         → Tells result (slice_index_or replies (statement - 1) d) (counted_from before reply.now) }
 {
     match reply {
@@ -54,12 +69,12 @@ fn tells_counted(told: Told<'_>, statement: u32, reply: &Reply, before: u64) -> 
 
 /// The first statement from one on whose reply is another than the one of these, where commits are counted behind so
 /// many.
-fn first_apart(told: Told<'_>, first: u32, replies: &[Reply], before: u64) -> Option<u32>
-    requires told { IsSomeTold told }
+fn first_apart(told: &Told<'_>, first: u32, replies: &[Reply], before: u64) -> Option<u32>
+    requires told { IsSomeTold told.now }
     requires first { 1 ≤ first }
-    requires within { first + length replies.now ≤ length told.places.now + 1 }
+    requires within { first + length replies.now ≤ length told.now.places.now + 1 }
     requires short { first + length replies.now ≤ 2 ^ 32 }
-    ensures { (tellings : List ReplyTold) → IsTelling told tellings
+    ensures { (tellings : List ReplyTold) → IsTelling told.now tellings
         → TellsFrom tellings (map (counted_from before) replies.now) first result }
 {
     for index in 0..replies.len() {
@@ -91,6 +106,7 @@ impl Replay {
         let statements = session.statements.as_slice();
         let groups = groups_of(alloc, statements)?;
         for group in groups.as_slice() {
+            let commits = commits_behind(self.commits_before, group.commits)?;
             run_part(
                 &mut self.database,
                 statements,
@@ -98,9 +114,7 @@ impl Replay {
                 group.last,
                 group.commits,
             )?;
-            if group.commits {
-                self.commits_before = self.commits_before.checked_add(1).ok_or(Memory)?;
-            }
+            self.commits_before = commits;
         }
         Ok(())
     }
@@ -128,6 +142,9 @@ impl Replay {
         ensures run { IfOk result (λ replies. (start : Database) (done : List EntryTold)
             → HasReplayed start script.now done self.old
             → HasReplayed start script.now (done ++ entry.now ∷ []) self.new) }
+        ensures count { IfOk result (λ replies.
+            (1 ≤ entry.now.first) × (entry.now.first + length replies.items ≡ entry.now.last + 1)
+            × (entry.now.last < 2 ^ 32)) }
         ensures told { IfOk result (λ replies. (start : Database) (done : List EntryTold)
             → HasReplayed start script.now done self.old
             → map (counted_from self.new.commits_before) replies.items
@@ -154,18 +171,18 @@ impl Replay {
         &mut self,
         script: &Script,
         entry: &Entry,
-        told: Told<'_>,
+        told: &Told<'_>,
     ) -> Result<Option<u32>, Memory>
         requires limits { IsWithinLimits script.now }
         requires ends { EndsByText script.now entry.now }
-        requires told { IsSomeTold told }
-        requires within { entry.now.last ≤ length told.places.now }
+        requires told { IsSomeTold told.now }
+        requires within { entry.now.last ≤ length told.now.places.now }
         ensures run { IfOk result (λ apart. (start : Database) (done : List EntryTold)
             → HasReplayed start script.now done self.old
             → HasReplayed start script.now (done ++ entry.now ∷ []) self.new) }
         ensures told { IfOk result (λ apart. (start : Database) (done : List EntryTold)
             (tellings : List ReplyTold) → HasReplayed start script.now done self.old
-            → IsTelling told tellings
+            → IsTelling told.now tellings
             → TellsFrom tellings (replies_behind start script.now done entry.now) entry.now.first apart) }
     {
         let replies = self.replies_to(script, entry)?;

@@ -256,13 +256,13 @@ module _ (script : Script) (es : List Entry) (e : Entry) where
   abbrev gs : List (ℕ × ℕ)
   gs = groups_of session.statements
 
-  record WholeAt : Type 0 where
-    place : ℕ
-    within : place < length gs
-    first : (get_or gs place no_group).0 ≡ e.first
-    last : (get_or gs place no_group).1 ≡ e.last
+  pub record WholeAt : Type 0 where
+    pub place : ℕ
+    pub within : place < length gs
+    pub first : (get_or gs place no_group).0 ≡ e.first
+    pub last : (get_or gs place no_group).1 ≡ e.last
 
-  whole_at : is_whole_group script e ≡ true → WholeAt
+  pub whole_at : is_whole_group script e ≡ true → WholeAt
   whole_at whole =
       let found = any_at (λ g. e.first == g.0 && e.last == g.1) gs whole in
       let g = get_or gs found.0 no_group in

@@ -127,3 +127,8 @@ module _ (ss : List Statement) where
   laid_order n [] k d laid within = absurd (omega arith)
   laid_order n (g ∷ gs) zero d laid within = laid.1
   laid_order n (g ∷ gs) (suc k) d laid within = laid_order (g.1 + 1) gs k d laid.4 (omega arith)
+
+  pub laid_within : (n : ℕ) (gs : List (ℕ × ℕ)) (k : ℕ) (d : ℕ × ℕ) → Laid n gs → k < length gs → (get_or gs k d).1 ≤ length ss
+  laid_within n [] k d laid within = absurd (omega arith)
+  laid_within n (g ∷ gs) zero d laid within = laid.2
+  laid_within n (g ∷ gs) (suc k) d laid within = laid_within (g.1 + 1) gs k d laid.4 (omega arith)
