@@ -1,4 +1,7 @@
+pub mod Comparing
 pub mod Counting
+pub mod Going
+pub mod Reading
 pub mod Replaying
 pub mod Tables
 pub mod Telling

@@ -333,7 +333,7 @@ run_size : (n : ℕ) (inner : Bool) (db : Database) (ss : List Statement) → le
 run_size n inner db [] = refl
 run_size n inner db (s ∷ ss) = ap suc (run_size n true (executed n db inner s).1 ss)
 
-settled_size : (n : ℕ) (db : Database) (o : Outcome) (ss : List Statement) → length (settled n db o ss).0 ≡ length ss
+pub settled_size : (n : ℕ) (db : Database) (o : Outcome) (ss : List Statement) → length (settled n db o ss).0 ≡ length ss
 settled_size n db (Committed k) ss = run_size n false db ss
 settled_size n db RolledBack ss = run_size n false db ss
 

@@ -2,7 +2,8 @@
 use Rattle.std.specs.Prelude.{flat_map, ◌≡◌, ◌≢◌, ℕ, ◌+◌, ◌-◌, ◌<◌, ◌≤◌, Bool, true, false, ◌&&◌, ◌==◌, if◌then◌else◌, max, List, [], ◌∷◌, ◌++◌, length, map, zip, slice_index_or, slice_set, Option, None, Some, IsTrue}
 use Rattle.std.specs.List.{AllByRecursion, list_all, range_with_len}
 use Rattle.bf_report.specs.Behind.{reply_is_told}
-use Rattle.bf_report.specs.Reading.{RepliesStandAt}
+use Rattle.bf_report.specs.Reading.{IsReadingOf, RepliesStandAt}
+use Rattle.bf_report.specs.declared.reading.Reading.{Reading}
 use Rattle.bf_sql.specs.Database.{Database}
 use Rattle.bf_base.specs.Lists.{part}
 use Rattle.bf_eager.specs.Eager.{IsWholeGroup, outcome_of}
@@ -23,7 +24,7 @@ use Rattle.bf_tree.specs.declared.script.Session.{Session}
 use Rattle.bf_tree.specs.declared.statement.Statement.{Statement}
 use Rattle.bf_verdict.specs.Accepted.{AnyCause, IsAuditOf, none_open, rows_counted}
 use Rattle.bf_verdict.specs.Reports.{Parts}
-use Rattle.bf_verdict.specs.Verdicts.{IsBadEntry, IsFirst, IsFirstApart, MayStand, places_of}
+use Rattle.bf_verdict.specs.Verdicts.{IsBadEntry, IsFirst, IsFirstApart, MayStand, compared, places_of}
 use Rattle.bf_check.specs.declared.replay.Replay.{Replay}
 use Rattle.bf_check.specs.declared.told.Told.{Told}
 
@@ -132,6 +133,17 @@ RunsEntry start script transcripts done e None = told transcripts e ≡ replies_
 RunsEntry start script transcripts done e (Some n) =
     (replies : Reply × Reply)
     × IsFirst (λ p. p.1.0 ≢ p.1.1) (zip (places_of e) (zip (told transcripts e) (replies_behind start script done e))) ((e.session, n), replies)
+
+-- all entries were run and are told so, or this is the first statement of theirs that is not
+abbrev pub JudgesReplies : Database → Script → Parts → Replay → Option (ℕ × ℕ) → Type 0
+JudgesReplies start script parts replay None =
+    HasReplayed start script parts.history replay × (map (told parts.transcripts) parts.history ≡ (replayed script start parts.history).0)
+JudgesReplies start script parts replay (Some place) =
+    (replies : Reply × Reply) × IsFirst (λ p. p.1.0 ≢ p.1.1) (compared start script parts) (place, replies)
+
+-- it was read, and its entries may stand
+abbrev pub IsReadStanding : Script → List ℕ → Reading → Type 0
+IsReadStanding script report reading = (parts : Parts) × IsReadingOf script report parts reading × MayStand script parts.history
 
 -- ---- the rest
 

@@ -1,5 +1,13 @@
 //! Whether a report is accepted.
 
+ghost use Rattle.std.specs.Prelude.{[], IfOk};
+ghost use Rattle.bf_check.specs.Judging.{HasReplayed, IsReadStanding, JudgesReplies};
+ghost use Rattle.bf_report.specs.Reading.{IsReadingOf};
+ghost use Rattle.bf_sql.specs.Database.{Database};
+ghost use Rattle.bf_verdict.specs.Beginning.{IsWithinLimits, database_behind};
+ghost use Rattle.bf_verdict.specs.Reports.{Parts};
+ghost use Rattle.bf_verdict.specs.Verdicts.{Judges, MayStand};
+
 use crate::replay::Replay;
 use crate::told::Told;
 use crate::{audit, rest};
@@ -17,7 +25,14 @@ fn first_other(
     script: &Script,
     report: &[u8],
     reading: &Reading,
-) -> Result<Option<(u32, u32)>, Memory> {
+) -> Result<Option<(u32, u32)>, Memory>
+    requires limits { IsWithinLimits script.now }
+    requires read { IsReadStanding script.now report.now reading.now }
+    ensures { IfOk result (λ other. (start : Database) (parts : Parts)
+        → IsReadingOf script.now report.now parts reading.now → MayStand script.now parts.history
+        → HasReplayed start script.now [] replay.old
+        → JudgesReplies start script.now parts replay.new other) }
+{
     for entry in reading.entries.as_slice() {
         let told = Told {
             report,
@@ -39,8 +54,7 @@ fn judge(
     report: &[u8],
     reading: &Reading,
 ) -> Result<Verdict, Memory>
-    ghost parts: { Parts }
-    requires reading { IsReadingOf script.now report.now parts reading.now }
+    requires read { (parts : Parts) × IsReadingOf script.now report.now parts reading.now }
     requires start { IsWithinLimits start.now }
     requires script { IsWithinLimits script.now }
     ensures { IfOk result (λ verdict.
