@@ -1,14 +1,16 @@
 -- ON THE WAY to a verdict: what is found of entries, replies and tables.
-use Rattle.std.specs.Prelude.{flat_map, ◌≡◌, ◌≢◌, ℕ, ◌+◌, ◌-◌, ◌<◌, ◌≤◌, Bool, true, false, ◌&&◌, ◌==◌, if◌then◌else◌, max, List, [], ◌∷◌, ◌++◌, length, map, zip, slice_index_or, slice_set, Option, None, Some, IsTrue}
-use Rattle.std.specs.List.{AllByRecursion, list_all, range_with_len}
+use Rattle.std.specs.Prelude.{flat_map, ◌≡◌, ◌≢◌, ℕ, ◌+◌, ◌-◌, ◌<◌, ◌≤◌, Bool, true, false, ◌&&◌, ◌==◌, if◌then◌else◌, max, List, [], ◌∷◌, ◌++◌, length, map, zip, slice_index_or, slice_set, Option, None, Some, IsTrue, not, ◌||◌, filter}
+use Rattle.std.specs.List.{AllByRecursion, enumerate_from, list_all, list_any, range_with_len}
 use Rattle.bf_report.specs.Behind.{reply_is_told}
 use Rattle.bf_report.specs.Reading.{IsReadingOf, RepliesStandAt}
 use Rattle.bf_report.specs.declared.reading.Reading.{Reading}
 use Rattle.bf_sql.specs.Database.{Database}
 use Rattle.bf_base.specs.Lists.{part}
 use Rattle.bf_eager.specs.Eager.{IsWholeGroup, outcome_of}
-use Rattle.bf_sql.specs.Groups.{commits, groups_in, statements_in, statements_of}
-use Rattle.bf_sql.specs.History.{IsApart, apart, commits_with, is_whole_group, replayed, settled, told}
+use Rattle.bf_sql.specs.Groups.{commits, groups_in, has_statement, session_at, statements_in, statements_of}
+use Rattle.bf_order.specs.Entries.{listed}
+use Rattle.bf_order.specs.declared.order.Listed.{Listed}
+use Rattle.bf_sql.specs.History.{IsApart, apart, commits_with, is_whole_group, replayed, settled, stands_in, told}
 use Rattle.bf_text.specs.Report.{commits_of}
 use Rattle.bf_verdict.specs.Beginning.{SessionGroup}
 use Rattle.bf_tree.specs.declared.history.Entry.{Entry}
@@ -147,12 +149,46 @@ IsReadStanding script report reading = (parts : Parts) × IsReadingOf script rep
 
 -- ---- the rest
 
--- each statement in no entry is told what it may be told, or this is the first that is not
-abbrev pub JudgesRest : Script → Parts → Option (ℕ × ℕ) → Type 0
-JudgesRest script parts None = AllByRecursion (IsApart script AnyCause parts.transcripts) (apart script none_open parts.transcripts parts.history)
-JudgesRest script parts (Some place) =
-    (reply : Reply)
-    × IsFirst (λ a. IsApart script AnyCause parts.transcripts a → ⊥) (apart script none_open parts.transcripts parts.history) (place.0, place.1, reply)
+-- all statements from one on and before another are told one cause, or not
+abbrev pub TellsOneCause : List Reply → ℕ → ℕ → Bool → Type 0
+TellsOneCause replies first behind true = (cause : Cause) × AreAll replies (Ended cause) first behind
+TellsOneCause replies first behind false = (cause : Cause) → AreAll replies (Ended cause) first behind → ⊥
+
+-- a session of a script, its groups, and what a report tells of it
+pub record IsRest (script : Script) (parts : Parts) (told : Told) (replies : List Reply) (groups : List Listed) : Type 0 where
+  pub telling : IsTelling told replies
+  pub replies : replies ≡ slice_index_or ([] ∷ parts.transcripts) told.session []
+  pub count : length replies ≡ length (session_at script told.session).statements
+  pub stands : MayStand script parts.history
+  pub groups : groups ≡ map (listed parts.history told.session (session_at script told.session).statements) (groups_in script told.session)
+
+abbrev pub IsSomeRest : Told → List Listed → Type 0
+IsSomeRest told groups = (script : Script) × (parts : Parts) × (replies : List Reply) × IsRest script parts told replies groups
+
+module _ (script : Script) (parts : Parts) where
+  -- whether a statement that is answered stands in no entry
+  abbrev pub is_apart : ℕ × ℕ × Reply → Bool
+  is_apart a =
+      not (list_any (stands_in a.0 a.1) parts.history || list_any (λ g. none_open a.0 g && has_statement a.1 g) (groups_in script a.0))
+
+  -- those of session s from the nth on
+  abbrev pub apart_from : ℕ → ℕ → List Reply → List (ℕ × ℕ × Reply)
+  apart_from s n replies = filter is_apart (map (λ a. (s, a.0, a.1)) (enumerate_from n replies))
+
+  -- each of some is told what it may be told, or this is the first that is not
+  abbrev pub JudgesEach : List (ℕ × ℕ × Reply) → Option (ℕ × ℕ) → Type 0
+  JudgesEach statements None = AllByRecursion (IsApart script AnyCause parts.transcripts) statements
+  JudgesEach statements (Some place) = (reply : Reply) × IsFirst (λ a. IsApart script AnyCause parts.transcripts a → ⊥) statements (place.0, place.1, reply)
+
+  abbrev pub in_session : ℕ → Option ℕ → Option (ℕ × ℕ)
+  in_session s None = None
+  in_session s (Some n) = Some (s, n)
+
+  abbrev pub JudgesPart : ℕ → List Reply → Option ℕ → Type 0
+  JudgesPart s replies wrong = JudgesEach (apart_from s 1 replies) (in_session s wrong)
+
+  abbrev pub JudgesRest : Option (ℕ × ℕ) → Type 0
+  JudgesRest wrong = JudgesEach (apart script none_open parts.transcripts parts.history) wrong
 
 -- ---- tables
 

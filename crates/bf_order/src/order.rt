@@ -161,9 +161,9 @@ impl Order {
 
     /// Enters transactions in turn. The number of the first that may not stand behind those before it, if there is one.
     pub fn enter_all(&mut self, entries: &[Entry]) -> Result<Option<u32>, Memory>
-        ghost script: { ScriptTold }
-        requires { IsOrderBehind script [] self.old }
-        ensures { IfOk result (EntersAll script entries.now self.new) }
+        requires { (script : ScriptTold) × IsOrderBehind script [] self.old }
+        ensures { IfOk result (λ bad. (script : ScriptTold) → IsOrderBehind script [] self.old
+            → EntersAll script entries.now self.new bad) }
     {
         for (index, entry) in entries.iter().enumerate() {
             if !self.enter(entry) {

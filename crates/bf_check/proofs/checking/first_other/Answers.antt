@@ -24,10 +24,11 @@ run-requires-clause-ends c =
 
 pub run-requires-clause-told : goal.run-requires-clause-told
 run-requires-clause-told c =
-    let places = c.as_slice.ensures.value ∙ ap (λ (v : Vec ℕ). v.items) c.index.ensures in
-    (_,
-    telling_here c.args.script.now c.args.report.now c.requires.read.0 c.args.reading.now c.requires.read.1 c.requires.read.2
-    c.as_slice-entry-items.result.now c.as_slice-entry-items.ensures.value c.loop-entry.entry-index none c.loop-entry-test.true _ c.index.result.now refl refl places)
+    let places = c.as_slice.ensures.value ∙ ap (λ (v : Vec ℕ). v.items) c.index.ensures in (
+      _,
+      telling_here c.args.script.now c.args.report.now c.requires.read.0 c.args.reading.now c.requires.read.1 c.requires.read.2
+          c.as_slice-entry-items.result.now c.as_slice-entry-items.ensures.value c.loop-entry.entry-index none c.loop-entry-test.true _ c.index.result.now refl refl places,
+    )
 
 pub run-requires-clause-within : goal.run-requires-clause-within
 run-requires-clause-within c =
@@ -48,7 +49,7 @@ returns-in-Some c = λ start parts is stands so.
     let e = get_or items k none in
     let places = c.as_slice.ensures.value ∙ ap (λ (v : Vec ℕ). v.items) c.index.ensures in
     let told = telling_here script bytes parts reading is stands items are k none below
-        (record { report = c.args.report; session = e.session; places = c.as_slice.result }) c.index.result.now refl refl places in
+    (record { report = c.args.report; session = e.session; places = c.as_slice.result }) c.index.result.now refl refl places in
     let done = c.loop-entry.invariant start parts is stands so in
     let tells = rw c.in-Some.is at (c.in_ok-statement.ensures.told start (take k parts.history) (get_or parts.transcripts (e.session - 1) []) done.0 told) in
     let within = within_all script bytes parts reading is stands items are k none below in
@@ -67,12 +68,13 @@ loop-entry-preserved c = λ start parts is stands so.
     let e = get_or items k none in
     let places = c.as_slice.ensures.value ∙ ap (λ (v : Vec ℕ). v.items) c.index.ensures in
     let told = telling_here script bytes parts reading is stands items are k none below
-        (record { report = c.args.report; session = e.session; places = c.as_slice.result }) c.index.result.now refl refl places in
+    (record { report = c.args.report; session = e.session; places = c.as_slice.result }) c.index.result.now refl refl places in
     let done = c.loop-entry.invariant start parts is stands so in
     let tells = rw c.in_default.is at (c.in_ok-statement.ensures.told start (take k parts.history) (get_or parts.transcripts (e.session - 1) []) done.0 told) in
-    let within = within_all script bytes parts reading is stands items are k none below in
-    (next_done script bytes parts reading is stands items are k none below start c.run.new.self (c.in_ok-statement.ensures.run start (take k parts.history) done.0),
-    one_more start script parts k none within done.1 (ran script bytes parts reading is stands items are k none below start None tells))
+    let within = within_all script bytes parts reading is stands items are k none below in (
+      next_done script bytes parts reading is stands items are k none below start c.run.new.self (c.in_ok-statement.ensures.run start (take k parts.history) done.0),
+      one_more start script parts k none within done.1 (ran script bytes parts reading is stands items are k none below start None tells),
+    )
 
 pub returns : goal.returns
 returns c = λ start parts is stands so.
