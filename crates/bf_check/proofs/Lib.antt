@@ -1,5 +1,6 @@
 pub mod Comparing
 pub mod Counting
+pub mod Fetching
 pub mod Going
 pub mod Reading
 pub mod Replaying

@@ -157,7 +157,7 @@ TellsOneCause replies first behind false = (cause : Cause) → AreAll replies (E
 -- a session of a script, its groups, and what a report tells of it
 pub record IsRest (script : Script) (parts : Parts) (told : Told) (replies : List Reply) (groups : List Listed) : Type 0 where
   pub telling : IsTelling told replies
-  pub replies : replies ≡ slice_index_or ([] ∷ parts.transcripts) told.session []
+  pub answers : replies ≡ slice_index_or ([] ∷ parts.transcripts) told.session []
   pub count : length replies ≡ length (session_at script told.session).statements
   pub stands : MayStand script parts.history
   pub groups : groups ≡ map (listed parts.history told.session (session_at script told.session).statements) (groups_in script told.session)
