@@ -1,7 +1,9 @@
+pub mod Auditing
 pub mod Comparing
 pub mod Counting
 pub mod Fetching
 pub mod Going
+pub mod Naming
 pub mod Reading
 pub mod Replaying
 pub mod Tables

@@ -27,9 +27,9 @@ abbrev AllBelow : Tables → List ℕ → Type 0
 AllBelow [] name = ⊤
 AllBelow (t ∷ ts) name = (name_cmp t.0 name ≡ Less) × AllBelow ts name
 
-above_so : (e name : List ℕ) (ts : Tables) → name_cmp e name ≡ Less → AllAbove name ts → AllAbove e ts
-above_so e name [] less h = tt
-above_so e name (t ∷ ts) less h = (name_cmp_total.trans e name t.0 less h.0, above_so e name ts less h.1)
+pub above_more : (e name : List ℕ) (ts : Tables) → name_cmp e name ≡ Less → AllAbove name ts → AllAbove e ts
+above_more e name [] less h = tt
+above_more e name (t ∷ ts) less h = (name_cmp_total.trans e name t.0 less h.0, above_more e name ts less h.1)
 
 -- the first name comes before the others
 pub others_above : (t : List ℕ × ℕ) (ts : Tables) → IsTrue (are_by_name (t ∷ ts)) → AllAbove t.0 ts
@@ -37,7 +37,7 @@ others_above t [] h = tt
 others_above t (u ∷ us) h =
     let parts = and_parts (is_lt (name_cmp t.0 u.0)) (are_by_name (u ∷ us)) h in
     let less = less_from_test (name_cmp t.0 u.0) parts.0 in
-    (less, above_so t.0 u.0 us less (others_above u us parts.1))
+    (less, above_more t.0 u.0 us less (others_above u us parts.1))
 
 pub behind_first : (t : List ℕ × ℕ) (ts : Tables) → IsTrue (are_by_name (t ∷ ts)) → IsTrue (are_by_name ts)
 behind_first t [] h = refl
@@ -97,7 +97,7 @@ equal_itself Greater e = absurd cc
 itself : (name : List ℕ) → name_cmp name name ≡ Equal
 itself name = equal_itself (name_cmp name name) (name_cmp_total.antisymm name name)
 
-first_there : (front : Tables) (t : List ℕ × ℕ) (ts : Tables) → IsTrue (are_by_name (front ++ t ∷ ts)) → rows_under (front ++ t ∷ ts) t.0 ≡ Some t.1
+pub first_there : (front : Tables) (t : List ℕ × ℕ) (ts : Tables) → IsTrue (are_by_name (front ++ t ∷ ts)) → rows_under (front ++ t ∷ ts) t.0 ≡ Some t.1
 first_there front t ts h = rest_alone front (t ∷ ts) t.0 (front_below front t ts h) ∙ found_by t ts t.0 Equal (itself t.0)
 
 -- ---- the first name of which two lists tell otherwise, behind what they tell alike
@@ -116,8 +116,8 @@ missing front one t ts one_rises rises above = record {
       none-some t.1
       (sym (front_alone front one t.0 (none_above t.0 one above) ∙ none_below t.0 front (front_below front t ts rises)) ∙ e ∙ first_there front t ts rises);
   before = λ earlier less.
-      earlier_same front one (t ∷ ts) one_rises rises earlier (above_so earlier t.0 one less above)
-      (less, above_so earlier t.0 ts less (others_above t ts (behind_front front (t ∷ ts) rises)));
+      earlier_same front one (t ∷ ts) one_rises rises earlier (above_more earlier t.0 one less above)
+      (less, above_more earlier t.0 ts less (others_above t ts (behind_front front (t ∷ ts) rises)));
 }
 
 -- a table that the second does not have
@@ -130,7 +130,7 @@ of_no_table front other t ts rises other_rises above = record {
       ∙ first_there front t ts rises);
   before = λ earlier less.
       earlier_same front (t ∷ ts) other rises other_rises earlier
-      (less, above_so earlier t.0 ts less (others_above t ts (behind_front front (t ∷ ts) rises))) (above_so earlier t.0 other less above);
+      (less, above_more earlier t.0 ts less (others_above t ts (behind_front front (t ∷ ts) rises))) (above_more earlier t.0 other less above);
 }
 
 -- a table with other rows
@@ -143,6 +143,6 @@ other_rows front t u ts us rises other_rises name differ = record {
   before = λ earlier less.
       let before_t = subst (λ (z : List ℕ). name_cmp earlier z ≡ Less) (sym name) less in
       earlier_same front (t ∷ ts) (u ∷ us) rises other_rises earlier
-      (before_t, above_so earlier t.0 ts before_t (others_above t ts (behind_front front (t ∷ ts) rises)))
-      (less, above_so earlier u.0 us less (others_above u us (behind_front front (u ∷ us) other_rises)));
+      (before_t, above_more earlier t.0 ts before_t (others_above t ts (behind_front front (t ∷ ts) rises)))
+      (less, above_more earlier u.0 us less (others_above u us (behind_front front (u ∷ us) other_rises)));
 }

@@ -160,7 +160,7 @@ pub record IsRest (script : Script) (parts : Parts) (told : Told) (replies : Lis
   pub answers : replies ≡ slice_index_or ([] ∷ parts.transcripts) told.session []
   pub count : length replies ≡ length (session_at script told.session).statements
   pub stands : MayStand script parts.history
-  pub groups : groups ≡ map (listed parts.history told.session (session_at script told.session).statements) (groups_in script told.session)
+  pub are_listed : groups ≡ map (listed parts.history told.session (session_at script told.session).statements) (groups_in script told.session)
 
 abbrev pub IsSomeRest : Told → List Listed → Type 0
 IsSomeRest told groups = (script : Script) × (parts : Parts) × (replies : List Reply) × IsRest script parts told replies groups

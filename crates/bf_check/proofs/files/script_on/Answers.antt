@@ -13,10 +13,10 @@ returns-in_err-script-clause-fault g c = λ fault is.
     let count : length items ≡ n = omega (arith, c.in_ok-bytes.bytes.ok.0, c.in_ok-bytes.ensures.len) in
     let room : length c.as_mut_slice.result.now ≡ n = ap length c.as_mut_slice.ensures.value ∙ count in
     let told = read_whole (g.D.Disk.seen c.args.disk.now) (g.D.Disk.seen c.len.new.self) into items c.as_slice.result.now n
-        c.in_ok-length.ensures.seen
-        (subst (λ (m : ℕ). IfTold (g.D.Disk.seen c.len.new.self) (λ file. into ≡ take m file)) room c.in_ok-read.ensures.bytes)
-        c.in_ok-length.ensures.len (c.read.auto.into ∙ ap length c.as_mut_slice.ensures.value)
-        (c.as_slice.ensures.value ∙ ap (λ (m : ℕ). take m (into ++ drop (length into) items)) c.in_ok-bytes.ensures.len) count in
+    c.in_ok-length.ensures.seen
+    (subst (λ (m : ℕ). IfTold (g.D.Disk.seen c.len.new.self) (λ file. into ≡ take m file)) room c.in_ok-read.ensures.bytes)
+    c.in_ok-length.ensures.len (c.read.auto.into ∙ ap length c.as_mut_slice.ensures.value)
+    (c.as_slice.ensures.value ∙ ap (λ (m : ℕ). take m (into ++ drop (length into) items)) c.in_ok-bytes.ensures.len) count in
     (c.as_slice.result.now, told, c.in_err-script.ensures.fault fault (cc))
 
 pub returns-then-length-from-clause-fault : goal.returns-then-length-from-clause-fault
