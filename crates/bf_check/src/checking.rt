@@ -1,6 +1,7 @@
 //! Whether a report is accepted.
 
-ghost use Rattle.std.specs.Prelude.{[], IfOk};
+ghost use Rattle.std.specs.Prelude.{◌≤◌, [], length, IfOk};
+ghost use Rattle.bf_verdict.specs.Accepted.{longest_report};
 ghost use Rattle.bf_check.specs.Judging.{HasReplayed, IsReadStanding, JudgesReplies};
 ghost use Rattle.bf_report.specs.Reading.{IsReadingOf};
 ghost use Rattle.bf_sql.specs.Database.{Database};
@@ -54,6 +55,7 @@ fn judge(
     report: &[u8],
     reading: &Reading,
 ) -> Result<Verdict, Memory>
+    requires short { length report.now ≤ longest_report }
     requires read { (parts : Parts) × IsReadingOf script.now report.now parts reading.now }
     requires start { IsWithinLimits start.now }
     requires script { IsWithinLimits script.now }

@@ -46,7 +46,7 @@ fn first_wrong_in(told: &Told<'_>, groups: &[Listed]) -> Result<Option<u32>, Mem
         if let Some(statement) = told.first_other(next, group.first, &stray) {
             return Ok(Some(statement));
         }
-        let behind = counted(group.last as usize)?;
+        let behind = group.last.checked_add(1).ok_or(Memory)?;
         if !listed.is_entered && !tells_one_cause(told, group.first, behind) {
             return Ok(Some(group.first));
         }
