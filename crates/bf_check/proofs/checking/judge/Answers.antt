@@ -2,7 +2,10 @@ use Rattle.std.proofs.Common.{◌≡◌, List, [], map, ap, sym, refl, ◌∙◌
 use Rattle.bf_sql.specs.Database.{Database}
 use Rattle.bf_text.specs.Report.{commits_of}
 use Rattle.bf_tree.specs.declared.history.Entry.{Entry}
+use Rattle.bf_sql.specs.History.{IsLegalHistory}
+use Rattle.bf_verdict.specs.Accepted.{AnyCause, none_open}
 use Rattle.bf_verdict.specs.Beginning.{database_behind}
+use Rattle.bf_verdict.specs.Reports.{AreTablesByName}
 use Rattle.bf_verdict.specs.Verdicts.{IsBadEntry, MayStand}
 use Rattle.bf_order.specs.Entries.{IsOrderBehind}
 use Rattle.bf_check.specs.Judging.{JudgesAudit}
@@ -57,9 +60,9 @@ returns-in-Some-4 c =
     let order = subst (λ (z : List Entry). IsOrderBehind script z c.enter_all.new.self) all entered.1 in
     let run = rw c.in_default-2.is at (c.in_ok-session.ensures start parts is stands (c.in_ok-replay.ensures script)) in
     let others = rw c.in_default-3.is at (c.in_ok-session-2.ensures script parts is stands order) in
-    let legal = record { whole_groups = stands.whole_groups; in_order = stands.in_order; outcomes = stands.outcomes; replies = run.1; others = others } in
+    let legal : IsLegalHistory script AnyCause none_open start parts.transcripts parts.history = record { whole_groups = stands.whole_groups; in_order = stands.in_order; outcomes = stands.outcomes; replies = run.1; others = others } in
     let told = is.report.parts_of_script in
-    let tables = record { named = told.told.tables_named; by_name = told.by_name; have_room = told.tables_room } in
+    let tables : AreTablesByName parts.audit = record { named = told.told.tables_named; by_name = told.by_name; have_room = told.tables_room } in
     let audit = c.in_ok-name.ensures parts.audit (commits_of parts.history) parts.sweep tables is.audit in
     let bad = rw c.in-Some-4.is at audit in
     let same = rw run.0.database at bad in
@@ -77,9 +80,9 @@ returns c =
     let order = subst (λ (z : List Entry). IsOrderBehind script z c.enter_all.new.self) all entered.1 in
     let run = rw c.in_default-2.is at (c.in_ok-session.ensures start parts is stands (c.in_ok-replay.ensures script)) in
     let others = rw c.in_default-3.is at (c.in_ok-session-2.ensures script parts is stands order) in
-    let legal = record { whole_groups = stands.whole_groups; in_order = stands.in_order; outcomes = stands.outcomes; replies = run.1; others = others } in
+    let legal : IsLegalHistory script AnyCause none_open start parts.transcripts parts.history = record { whole_groups = stands.whole_groups; in_order = stands.in_order; outcomes = stands.outcomes; replies = run.1; others = others } in
     let told = is.report.parts_of_script in
-    let tables = record { named = told.told.tables_named; by_name = told.by_name; have_room = told.tables_room } in
+    let tables : AreTablesByName parts.audit = record { named = told.told.tables_named; by_name = told.by_name; have_room = told.tables_room } in
     let audit = c.in_ok-name.ensures parts.audit (commits_of parts.history) parts.sweep tables is.audit in
     let good = rw c.in-None.is at audit in
     record { short = c.requires.short; parts = parts; report = is.report; legal = legal; audited = rw run.0.database at good }
