@@ -234,7 +234,7 @@ module _ (es : List Entry) (s : ℕ) (ss : List Statement) (items : List Listed)
       ∙ laid_rises ss 1 (groups_of ss) (groups_laid ss)
 
 -- an item that passes a test
-any_at : {X : Type 0} (p : X → Bool) (xs : List X) → list_any p xs ≡ true → (k : ℕ) × (k < length xs) × ((d : X) → p (get_or xs k d) ≡ true)
+pub any_at : {X : Type 0} (p : X → Bool) (xs : List X) → list_any p xs ≡ true → (k : ℕ) × (k < length xs) × ((d : X) → p (get_or xs k d) ≡ true)
 any_at p [] some = absurd (false≢true some)
 any_at p (x ∷ xs) some = elim (cases_Bool (p x)) [
   | inl here ↦ (0, omega arith, λ d. here)
