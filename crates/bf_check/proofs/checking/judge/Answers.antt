@@ -1,4 +1,5 @@
 use Rattle.std.proofs.Common.{◌≡◌, List, [], map, ap, sym, refl, ◌∙◌, subst}
+use Rattle.std.proofs.lemmas.List.{take_rest}
 use Rattle.bf_sql.specs.Database.{Database}
 use Rattle.bf_text.specs.Report.{commits_of}
 use Rattle.bf_tree.specs.declared.history.Entry.{Entry}
@@ -63,7 +64,7 @@ returns-in-Some-4 c =
     let legal : IsLegalHistory script AnyCause none_open start parts.transcripts parts.history = record { whole_groups = stands.whole_groups; in_order = stands.in_order; outcomes = stands.outcomes; replies = run.1; others = others } in
     let told = is.report.parts_of_script in
     let tables : AreTablesByName parts.audit = record { named = told.told.tables_named; by_name = told.by_name; have_room = told.tables_room } in
-    let audit = c.in_ok-name.ensures parts.audit (commits_of parts.history) parts.sweep tables is.audit in
+    let audit = c.in_ok-name.ensures parts.audit (commits_of parts.history) parts.sweep tables (take_rest c.args.report.now c.args.reading.now.audit ∙ is.audit) in
     let bad = rw c.in-Some-4.is at audit in
     let same = rw run.0.database at bad in
     record { short = c.requires.short; parts = parts; report = is.report; holds = record { legal = legal; some = same.0; first = same.1 } }
@@ -83,6 +84,6 @@ returns c =
     let legal : IsLegalHistory script AnyCause none_open start parts.transcripts parts.history = record { whole_groups = stands.whole_groups; in_order = stands.in_order; outcomes = stands.outcomes; replies = run.1; others = others } in
     let told = is.report.parts_of_script in
     let tables : AreTablesByName parts.audit = record { named = told.told.tables_named; by_name = told.by_name; have_room = told.tables_room } in
-    let audit = c.in_ok-name.ensures parts.audit (commits_of parts.history) parts.sweep tables is.audit in
+    let audit = c.in_ok-name.ensures parts.audit (commits_of parts.history) parts.sweep tables (take_rest c.args.report.now c.args.reading.now.audit ∙ is.audit) in
     let good = rw c.in-None.is at audit in
     record { short = c.requires.short; parts = parts; report = is.report; legal = legal; audited = rw run.0.database at good }
