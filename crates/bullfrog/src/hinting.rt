@@ -6,10 +6,10 @@ use std::alloc::Global;
 use std::io;
 use std::io::Eprint;
 
-/// A status, and what people are told of it beside its text.
+/// The number of a status, and what people are told of it beside its text.
 #[derive(Drop)]
 pub struct Told {
-    pub status: Status,
+    pub number: u8,
     hint: Option<String>,
 }
 
@@ -34,14 +34,14 @@ impl Told {
     /// What is told of a status, by the text that was read and what the system said of a file, as far as these are known.
     pub fn of(alloc: Global, status: Status, text: Option<&[u8]>, said: Option<io::Error>) -> Told {
         Told {
-            status,
+            number: status.number(),
             hint: hint_of(alloc, status, text, said),
         }
     }
 
-    /// A status of which people are told no more.
-    pub fn without_hint(status: Status) -> Told {
-        Told { status, hint: None }
+    /// A status of this number, of which people are told no more.
+    pub fn without_hint(number: u8) -> Told {
+        Told { number, hint: None }
     }
 
     /// Writes the hint to standard error. A failed write is passed over.
