@@ -83,12 +83,13 @@ fn serve_actor<N: Beginning<J>, J: Journal, R: Wait, G: Gate>(
     let phase = shared.phase();
     let served = if place < phase.workers {
         let worker = number_from(FIRST_WORKER, place);
-        let mut seats = Seats::of(alloc, None);
+        let mut seats = Seats::of(alloc, None, 1);
         serve_worker(rt, alloc, shared, gate, &mut seats, worker)
     } else {
         let before = phase.from.saturating_add(place - phase.workers);
         let session = number_from(FIRST_SESSION, before);
-        let mut seats = shared.seats_of(session);
+        let is_alone = phase.sessions == 1 && phase.workers == 0;
+        let mut seats = shared.seats_of(session, is_alone);
         serve_session(rt, alloc, shared, gate, &mut seats, session)
     };
     if served.is_err() {

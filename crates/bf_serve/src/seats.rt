@@ -205,8 +205,8 @@ impl<N: Opened> Seat<N> {
 }
 
 impl<N: Opened> Seats<N> {
-    /// Seats of an actor that was told nothing yet.
-    pub(crate) fn of(alloc: Global, session: Option<u32>) -> Seats<N>
+    /// Seats of an actor that was told nothing yet, and of whose statements so many may have their replies in one section.
+    pub(crate) fn of(alloc: Global, session: Option<u32>, together: usize) -> Seats<N>
         requires { IfSome session (IsPlace N.script) }
         ensures fresh { result.notes ≡ fresh }
         ensures none { Hold result [] }
@@ -221,7 +221,7 @@ impl<N: Opened> Seats<N> {
             given_back: 0,
             session_ended: None,
             phase_ended: false,
-            upcoming: Upcoming::nothing(),
+            upcoming: Upcoming::nothing(together),
         }
     }
 
@@ -229,7 +229,8 @@ impl<N: Opened> Seats<N> {
     pub(crate) fn take_upcoming(&mut self) -> Upcoming<N>
         ensures { self.new ≡ self.old }
     {
-        mem::replace(&mut self.upcoming, Upcoming::nothing())
+        let nothing = Upcoming::nothing(self.upcoming.together());
+        mem::replace(&mut self.upcoming, nothing)
     }
 
     /// Keeps what is known of the session's next statements.

@@ -131,15 +131,17 @@ impl<'r, 'g, N: Beginning<J>, J: Journal, R: Wait, G: Gate> Shared<'r, 'g, N, J,
         session > 0 && session as usize <= self.script.sessions.len()
     }
 
-    /// Seats of an actor that serves a session, if the script has it.
-    pub(crate) fn seats_of(&self, session: u32) -> Seats<N>
+    /// Seats of an actor that serves a session, if the script has it, with others beside it or alone.
+    pub(crate) fn seats_of(&self, session: u32, is_alone: bool) -> Seats<N>
         ensures fresh { result.notes ≡ fresh }
         ensures none { Hold result [] }
     {
+        // Who is alone waits for nobody's lock.
+        let together = if is_alone { 1 } else { MOST_TOGETHER };
         if self.is_session(session) {
-            return Seats::of(self.alloc, Some(session));
+            return Seats::of(self.alloc, Some(session), together);
         }
-        Seats::of(self.alloc, None)
+        Seats::of(self.alloc, None, together)
     }
 
     /// One turn of a session: its open group ends, or its next statement is made ready and served until it has its reply, waits
@@ -189,7 +191,7 @@ impl<'r, 'g, N: Beginning<J>, J: Journal, R: Wait, G: Gate> Shared<'r, 'g, N, J,
         ensures { IfOk result (IsStep N.registry) }
     {
         let request = self.make_ready(at)?;
-        let later = self.make_ready_behind(&request)?;
+        let later = self.make_ready_behind(&request, upcoming.together())?;
         if let Some(step) = self.serve(&request, later.as_slice(), upcoming)? {
             return Ok(step);
         }
@@ -202,10 +204,17 @@ impl<'r, 'g, N: Beginning<J>, J: Journal, R: Wait, G: Gate> Shared<'r, 'g, N, J,
 
     /// The statements made ready that may have their replies in the section of one: while it and they are SELECTs of rows by
     /// their keys, and at most so many that others get the lock soon.
-    fn make_ready_behind(&self, request: &Request<N>) -> Result<Vec<Request<N>>, Memory> {
+    fn make_ready_behind(
+        &self,
+        request: &Request<N>,
+        together: usize,
+    ) -> Result<Vec<Request<N>>, Memory> {
         let mut later = Vec::new(self.alloc);
+        if together == 1 {
+            return Ok(later);
+        }
         let mut next = self.position_behind(request);
-        for _ in 1..MOST_TOGETHER {
+        for _ in 1..together {
             let Some(at) = next else {
                 return Ok(later);
             };
@@ -238,28 +247,30 @@ impl<'r, 'g, N: Beginning<J>, J: Journal, R: Wait, G: Gate> Shared<'r, 'g, N, J,
         let mut engine = self.engine();
         let (served, position) = engine.serve(self.rt, self.registry, request)?;
         upcoming.begin(request.at().place(), position);
-        if served.has_reply() {
-            self.serve_later(&mut engine, later, upcoming)?;
-        }
+        let has_died = served.has_reply() && self.serve_later(&mut engine, later, upcoming)?;
         drop(engine);
+        if has_died {
+            self.wake();
+        }
         self.step_of(served, request)
     }
 
-    /// Serves statements that were made ready behind one that has its reply, up to the first that has none.
+    /// Serves statements that were made ready behind one that has its reply, up to the first that has none, and tells whether
+    /// the attempt has died there.
     fn serve_later(
         &self,
         engine: &mut Engine<N, J>,
         later: &[Request<N>],
         upcoming: &mut Upcoming<N>,
-    ) -> Result<(), Memory> {
+    ) -> Result<bool, Memory> {
         for request in later {
             let (served, position) = engine.serve(self.rt, self.registry, request)?;
             if !served.has_reply() {
-                return Ok(());
+                return Ok(matches!(served, Served::Died));
             }
             upcoming.add(matches!(served, Served::Ended { .. }), position);
         }
-        Ok(())
+        Ok(false)
     }
 
     /// How a turn ends in which a statement was served so, once those who wait are told; `None` where its cover is to be made
@@ -269,10 +280,7 @@ impl<'r, 'g, N: Beginning<J>, J: Journal, R: Wait, G: Gate> Shared<'r, 'g, N, J,
         ensures { IfOk result (λ step. IfSome step (IsStep N.registry)) }
     {
         match (served, request.at().migration()) {
-            (Served::Replied, _) => {
-                self.wake();
-                Ok(Some(Step::Replied(request.at().place())))
-            }
+            (Served::Replied, _) => Ok(Some(Step::Replied(request.at().place()))),
             (Served::Ended { changes_catalog }, _) => {
                 self.tell_end(changes_catalog);
                 Ok(Some(Step::Replied(request.at().place())))

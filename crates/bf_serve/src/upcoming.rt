@@ -13,17 +13,25 @@ pub(crate) struct Upcoming<N: Opened> {
     /// Whether each of them was the last one of its group.
     end_groups: bool,
     at: Option<Position<N>>,
+    /// How many statements may have their replies in one section.
+    together: usize,
 }
 
 impl<N: Opened> Upcoming<N> {
-    /// Nothing is known.
-    pub(crate) fn nothing() -> Upcoming<N> {
+    /// Nothing is known of a session of which so many statements may have their replies in one section.
+    pub(crate) fn nothing(together: usize) -> Upcoming<N> {
         Upcoming {
             replied: 0,
             count: 0,
             end_groups: false,
             at: None,
+            together,
         }
+    }
+
+    /// How many statements may have their replies in one section.
+    pub(crate) fn together(&self) -> usize {
+        self.together
     }
 
     /// The next statement that has its reply and is to be told of, if one is left.
